@@ -1,0 +1,135 @@
+-- Document 01's plain machine of demand 3: it holds n, k and a place and nothing else, and moves by the calls alone. These are definitions; nothing is assumed.
+use Prim.Native.Nat.{ℕ, zero, suc, _+_, _-_}
+use mathlib.Core.Bool.{cond}
+use mathlib.Core.List.{List, [], _∷_, _++_}
+use lib.Dec.{eqb, leb}
+use lib.ListN.{length, replicate}
+use Rattle.stirling.specs.Refusal.{refuse, unless}
+use Rattle.stirling.specs.Count.{c}
+use Rattle.perm.specs.Permutation.{at}
+use Rattle.perm.specs.Array.{position, arrayOf}
+use Rattle.gray.specs.Order.{Row, S}
+use Rattle.gray.specs.Listing.{rowAt}
+use Rattle.cursor.specs.declared.Cursor.{Cursor}
+use Rattle.cursor.specs.declared.Answer.{Answer}
+use Rattle.cursor.specs.declared.Step.{Step}
+
+pub record Machine : Type 0 where
+  pub n : ℕ
+  pub k : ℕ
+  pub place : ℕ
+
+pub data Call : Type 0 where
+  forward back show : Call
+  jump : ℕ → Call
+
+-- filled up with zeros to 20 bytes
+abbrev pub padded : List ℕ → List ℕ
+padded s = s ++ replicate (20 - length s) 0
+
+-- its permutation: the one at its place in S(n,k)
+abbrev pub rowOf : Machine → Row
+rowOf m = rowAt (S (m .n) (m .k)) (m .place)
+
+-- the record that shows it: n, k, place, permutation, array
+unfoldable pub observe : Machine → Cursor
+observe m = record {
+  n = m .n;
+  k = m .k;
+  place = m .place;
+  perm = padded (rowOf m);
+  array = padded (arrayOf (m .n) (rowOf m));
+}
+
+-- forward: refused 9 at the last place; back: refused 10 at place 0; jump r: refused 3 if r ≥ c(n,k); show is not refused
+abbrev pub refusalOf : Machine → Call → ℕ
+refusalOf m forward = refuse (leb (c (m .n) (m .k)) (m .place + 1)) 9
+refusalOf m back = refuse (eqb (m .place) 0) 10
+refusalOf m (jump r) = refuse (leb (c (m .n) (m .k)) r) 3
+refusalOf m show = 0
+
+-- forward: place + 1; back: place − 1; jump r: place r; show stays
+abbrev pub destination : Machine → Call → ℕ
+destination m forward = m .place + 1
+destination m back = m .place - 1
+destination m (jump r) = r
+destination m show = m .place
+
+abbrev pub moved : Machine → ℕ → Machine
+moved m place = record { n = m .n; k = m .k; place = place }
+
+-- the machine after a call; a refused call moves nothing
+unfoldable pub turn : Machine → Call → Machine
+turn m call = unless (refusalOf m call) (moved m (destination m call)) m
+
+-- the first position at which two rows differ, counted from i
+unfoldable pub firstFrom : ℕ → Row → Row → ℕ
+firstFrom i [] t = i
+firstFrom i (x ∷ xs) [] = i
+firstFrom i (x ∷ xs) (y ∷ ys) = cond (eqb x y) (firstFrom (suc i) xs ys) i
+
+-- the three positions with new = old·⟨i,j,l⟩, i the smallest: i is the first position where the two differ, the value now at i stood at j, and the value now at j stood at l
+abbrev pub stepI : Row → Row → ℕ
+stepI old new = firstFrom 1 old new
+
+abbrev pub stepJ : Row → Row → ℕ
+stepJ old new = position (at new (stepI old new)) old
+
+abbrev pub stepL : Row → Row → ℕ
+stepL old new = position (at new (stepJ old new)) old
+
+-- a refusal, or 0 for none, and zeros for the rest
+abbrev pub bare : ℕ → Answer
+bare r = record {
+  refusal = r;
+  i = 0;
+  j = 0;
+  l = 0;
+  place = 0;
+  perm = replicate 20 0;
+  array = replicate 20 0;
+}
+
+-- the three positions of a step from one machine to the next
+abbrev pub stepped : Machine → Machine → Answer
+stepped m m′ = record {
+  refusal = 0;
+  i = stepI (rowOf m) (rowOf m′);
+  j = stepJ (rowOf m) (rowOf m′);
+  l = stepL (rowOf m) (rowOf m′);
+  place = 0;
+  perm = replicate 20 0;
+  array = replicate 20 0;
+}
+
+-- what show hands out: place, permutation, array
+abbrev pub shown : Machine → Answer
+shown m = record {
+  refusal = 0;
+  i = 0;
+  j = 0;
+  l = 0;
+  place = m .place;
+  perm = padded (rowOf m);
+  array = padded (arrayOf (m .n) (rowOf m));
+}
+
+-- the answer to a call that is not refused: three positions for forward and back, zeros for jump
+abbrev pub given : Machine → Call → Answer
+given m forward = stepped m (moved m (m .place + 1))
+given m back = stepped m (moved m (m .place - 1))
+given m (jump r) = bare 0
+given m show = shown m
+
+-- the answer to a call; on a refusal, zeros for all but its number
+unfoldable pub answered : Machine → Call → Answer
+answered m call = unless (refusalOf m call) (given m call) (bare (refusalOf m call))
+
+-- the record and the answer after a call
+abbrev pub turned : Machine → Call → Step
+turned m call = record { cursor = observe (turn m call); answer = answered m call }
+
+-- the records and the answers after each call of a list
+unfoldable pub machineRun : Machine → List Call → List Step
+machineRun m [] = []
+machineRun m (call ∷ calls) = turned m call ∷ machineRun (turn m call) calls

@@ -1,0 +1,76 @@
+-- Document 01's *walk* as a record that a caller hands in, sound or not: what each call gives for EVERY record. These are definitions; nothing is assumed.
+use Prim.Native.Nat.{ℕ}
+use mathlib.Core.Bool.{Bool, not, cond, _&&_}
+use mathlib.Core.List.{List, [], _∷_}
+use lib.Dec.{eqb, ltb}
+use lib.ListN.{replicate}
+use Rattle.stirling.specs.Refusal.{refuse, unless, within}
+use Rattle.stirling.specs.Count.{c, checkCycles}
+use Rattle.perm.specs.Lists.{same}
+use Rattle.cursor.specs.Machine.{Machine, Call, forward, back, jump, show, observe, turned, machineRun, bare}
+use Rattle.cursor.specs.declared.Cursor.{Cursor}
+use Rattle.cursor.specs.declared.Step.{Step}
+
+-- the machine at a record's n, k and place
+abbrev pub machineOf : Cursor → Machine
+machineOf w = record { n = w .n; k = w .k; place = w .place }
+
+-- n, k and place in range, and permutation and array, with the zeros after the n-th byte, those of that place
+unfoldable pub sound : Cursor → Bool
+sound w =
+    within 1 20 (w .n) && within 1 (w .n) (w .k) && ltb (w .place) (c (w .n) (w .k))
+    && same (w .perm) (observe (machineOf w) .perm) && same (w .array) (observe (machineOf w) .array)
+
+-- check 8
+abbrev pub checkRecord : Cursor → ℕ
+checkRecord w = refuse (not (sound w)) 8
+
+-- a call on a record: what the plain machine at its place shows after it; a record that fails check 8 comes back as it was
+unfoldable pub called : Cursor → Call → Step
+called w call = unless (checkRecord w) (turned (machineOf w) call) (record { cursor = w; answer = bare 8 })
+
+abbrev pub start : ℕ → ℕ → Machine
+start n k = record { n = n; k = k; place = 0 }
+
+-- a walk of zeros
+abbrev pub zeros : Cursor
+zeros = record { n = 0; k = 0; place = 0; perm = replicate 20 0; array = replicate 20 0 }
+
+-- open: checks 1 and 2, then place 0; a refused open hands back a walk of zeros
+unfoldable pub opened : ℕ → ℕ → Step
+opened n k =
+    unless (checkCycles n k)
+    (record { cursor = observe (start n k); answer = bare 0 })
+    (record { cursor = zeros; answer = bare (checkCycles n k) })
+
+-- the steps after an open and after each call of a list, each call getting the record that the one before handed back
+unfoldable pub callsRun : Cursor → List Call → List Step
+callsRun w [] = []
+callsRun w (call ∷ calls) = called w call ∷ callsRun (called w call .cursor) calls
+
+-- the whole list of a walk: the step of the open and those of the calls
+abbrev pub walkRun : ℕ → ℕ → List Call → List Step
+walkRun n k calls = opened n k ∷ callsRun (opened n k .cursor) calls
+
+-- the whole list of the plain machine: what stands after the open and after each call
+abbrev pub plainRun : ℕ → ℕ → List Call → List Step
+plainRun n k calls = record { cursor = observe (start n k); answer = bare 0 } ∷ machineRun (start n k) calls
+
+-- a call as two numbers: 1 forward, 2 back, 3 jump to the place given, any other show
+abbrev pub decode : ℕ → ℕ → Call
+decode kind place = cond (eqb kind 1) forward (cond (eqb kind 2) back (cond (eqb kind 3) (jump place) show))
+
+-- a list of calls as two slices; a place that is missing is 0
+unfoldable pub decoded : List ℕ → List ℕ → List Call
+decoded [] places = []
+decoded (kind ∷ kinds) [] = decode kind 0 ∷ decoded kinds []
+decoded (kind ∷ kinds) (place ∷ places) = decode kind place ∷ decoded kinds places
+
+-- the last of a list of steps that begins with `first`
+unfoldable pub lastStep : Step → List Step → Step
+lastStep first [] = first
+lastStep first (next ∷ steps) = lastStep next steps
+
+-- replay: the step that the plain machine ends with after an open and a list of calls; a refused open ends it
+unfoldable pub replayed : ℕ → ℕ → List Call → Step
+replayed n k calls = unless (checkCycles n k) (lastStep (opened n k) (machineRun (start n k) calls)) (opened n k)

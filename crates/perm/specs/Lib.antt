@@ -1,0 +1,5 @@
+pub mod Lists
+pub mod Permutation
+pub mod Cycle
+pub mod Array
+pub mod Checks

@@ -1,0 +1,33 @@
+-- Document 01's *count* c(n,k), and the checks 1, 2 and 3 on numbers, which rest on it. These are definitions; nothing is assumed.
+use Prim.Native.Nat.{ℕ, zero, suc, _+_, _*_}
+use mathlib.Core.Bool.{not, cond}
+use lib.Dec.{leb}
+use Rattle.stirling.specs.Refusal.{refuse, _then_, unless, within}
+use Rattle.stirling.specs.declared.Counted.{Counted}
+
+-- c(0,0) = 1; zero if just one of n, k is 0; otherwise c(n,k) = (n−1)×c(n−1,k) + c(n−1,k−1)
+unfoldable pub c : ℕ → ℕ → ℕ
+c zero zero = 1
+c zero (suc k) = 0
+c (suc n) zero = 0
+c (suc n) (suc k) = n * c n (suc k) + c n k
+
+-- check 1: n not 1 to 20
+abbrev pub checkSize : ℕ → ℕ
+checkSize n = refuse (not (within 1 20 n)) 1
+
+-- check 1, then check 2: k not 1 to n
+abbrev pub checkCycles : ℕ → ℕ → ℕ
+checkCycles n k = checkSize n then refuse (not (within 1 n k)) 2
+
+-- checks 1 and 2, then check 3: place ≥ c(n,k)
+abbrev pub checkPlace : ℕ → ℕ → ℕ → ℕ
+checkPlace n k place = checkCycles n k then refuse (leb (c n k) place) 3
+
+-- the count where n is at most 20, as the table has it
+abbrev pub lookupOf : ℕ → ℕ → ℕ
+lookupOf n k = cond (leb n 20) (c n k) 0
+
+-- document 01's call Count, for every n and k: checks 1 and 2, then c(n,k); 0 on a refusal
+abbrev pub countOf : ℕ → ℕ → Counted
+countOf n k = record { refusal = checkCycles n k; count = unless (checkCycles n k) (c n k) 0 }
