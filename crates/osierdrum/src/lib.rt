@@ -1,0 +1,77 @@
+// The library that the Rust server links: each call as `extern "C"`, thin over the crate that does the work, with its full contract again.
+ghost use mathlib.Core.Path.{_≡_};
+ghost use Rattle.perm.specs.Checks.{ToArray, FromArray};
+ghost use Rattle.rank.specs.Place.{Unranked, Ranked, RowsWritten};
+ghost use Rattle.osierdrum.specs.Exports.{counted, standing};
+
+// A count, or a refusal with 0.
+#[repr(C)]
+pub struct Count {
+    pub refusal: u8,
+    pub count: u64,
+}
+
+// A permutation's number of cycles and its place, or a refusal with zeros.
+#[repr(C)]
+pub struct Rank {
+    pub refusal: u8,
+    pub k: u64,
+    pub place: u64,
+}
+
+// c(n,k). Refusals 1, 2.
+#[no_mangle]
+pub extern "C" fn osierdrum_count(n: u64, k: u64) -> Count
+    ensures { λ r. ⌜ r ≡ counted n k ⌝ }
+{
+    let answer = stirling::count(n, k);
+    Count {
+        refusal: answer.refusal,
+        count: answer.count,
+    }
+}
+
+// The permutation at a place of S(n,k). Refusals 1, 2, 3, 5.
+#[no_mangle]
+pub extern "C" fn osierdrum_unrank(n: u64, k: u64, place: u64, out: &mut [u8]) -> u8
+    ensures { λ r. ⌜ Unranked n k place (now (out .entry)) r (now (out .exit)) ⌝ }
+{
+    rank::unrank(n, k, place, out)
+}
+
+// The number of cycles of a permutation and its place. Refusals 1, 6, 7.
+#[no_mangle]
+pub extern "C" fn osierdrum_rank(s: &[u8]) -> Rank
+    ensures { λ r. ⌜ Ranked (now (s .entry)) (standing r) ⌝ }
+{
+    let answer = rank::rank(s);
+    Rank {
+        refusal: answer.refusal,
+        k: answer.k,
+        place: answer.place,
+    }
+}
+
+// The transposition array of a permutation. Refusals 1, 5, 6, 7.
+#[no_mangle]
+pub extern "C" fn osierdrum_to_array(s: &[u8], out: &mut [u8]) -> u8
+    ensures { λ r. ⌜ ToArray (now (s .entry)) (now (out .entry)) r (now (out .exit)) ⌝ }
+{
+    perm::to_array(s, out)
+}
+
+// The permutation of a transposition array. Refusals 1, 5, 6.
+#[no_mangle]
+pub extern "C" fn osierdrum_from_array(a: &[u8], out: &mut [u8]) -> u8
+    ensures { λ r. ⌜ FromArray (now (a .entry)) (now (out .entry)) r (now (out .exit)) ⌝ }
+{
+    perm::from_array(a, out)
+}
+
+// m permutations from a place on, into a buffer from byte o on. Refusals 1, 2, 3, 4, 5.
+#[no_mangle]
+pub extern "C" fn osierdrum_rows(n: u64, k: u64, place: u64, m: u64, o: u64, buf: &mut [u8]) -> u8
+    ensures { λ r. ⌜ RowsWritten n k place m o (now (buf .entry)) r (now (buf .exit)) ⌝ }
+{
+    rank::rows(n, k, place, m, o, buf)
+}

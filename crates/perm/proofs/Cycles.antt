@@ -1,0 +1,282 @@
+-- The number of cycles, by following, of E(γ) and I(i,γ); a cycle closes within n steps and has exactly one least position.
+-- From what a permutation's values are, the pigeonhole principle, and the laws of counting. Assumes nothing.
+use mathlib.Core.Path.{_≡_, refl, sym, ap, _∙_}
+use mathlib.Core.Logic.{_⊎_, inl, inr}
+use mathlib.Core.Bool.{Bool, true, false}
+use mathlib.Core.List.{List, [], _∷_}
+use Prim.Native.Nat.{ℕ, zero, suc, _+_, _-_, _≤_, _<_}
+use native.Mathlib.Nat.{eq-or-lt-of-le, le-refl, le-antisymm, zero-add, suc-add}
+use native.Mathlib.Decide.{ℕ-discrete}
+use native.Mathlib.Omega.{arith}
+use lib.Dec.{T, ltb, nltb→le}
+use lib.ListN.{length, length-set, List·getD-append}
+use lib.Seq.{getD-at, getD-set-same, getD-set-other}
+use borrow.Author.Tests.{ltb-false, le-ltb}
+use Rattle.perm.specs.Lists.{one, tally, range}
+use Rattle.perm.specs.Permutation.{IsPermutation, at, put, extend, insert}
+use Rattle.perm.specs.Cycle.{follow, least, cycles}
+use Rattle.perm.proofs.Tally.{tally-append, tally-range-cong, range-snoc}
+use Rattle.perm.proofs.Values.{in-range, injective}
+use Rattle.perm.proofs.Split.{extend-permutation, insert-permutation}
+use Rattle.perm.proofs.Pigeonhole.{pigeonhole, minimum}
+
+-- ---- the values of E(γ) and I(i,γ), position by position
+
+at-extend-low : {m : ℕ} (v : ℕ) (γ : List ℕ) → length γ ≡ m → (j : ℕ) → 1 ≤ j → j ≤ m → at (extend v γ) j ≡ at γ j
+unfolding extend
+at-extend-low v γ e j h k = List·getD-append γ (v ∷ []) 0 (j - 1) (omega arith)
+
+at-extend-top : {m : ℕ} (v : ℕ) (γ : List ℕ) → length γ ≡ m → at (extend v γ) (suc m) ≡ v
+unfolding extend
+at-extend-top {m} v γ e = getD-at γ v [] 0 (suc m - 1) (omega arith)
+
+insert-extend : (v i : ℕ) (γ : List ℕ) → insert v i γ ≡ extend (at γ i) (put γ i v)
+unfolding insert extend
+insert-extend v i γ = refl
+
+at-insert-here : {m : ℕ} (v i : ℕ) (γ : List ℕ) → length γ ≡ m → 1 ≤ i → i ≤ m → at (insert v i γ) i ≡ v
+at-insert-here v i γ e h k =
+    rw insert-extend (at-extend-low (at γ i) (put γ i v) (length-set γ (i - 1) v ∙ e) i h k ∙ getD-set-same γ (i - 1) v 0 (omega arith))
+
+at-insert-top : {m : ℕ} (v i : ℕ) (γ : List ℕ) → length γ ≡ m → at (insert v i γ) (suc m) ≡ at γ i
+at-insert-top v i γ e = rw insert-extend (at-extend-top (at γ i) (put γ i v) (length-set γ (i - 1) v ∙ e))
+
+at-insert-other : {m : ℕ} (v i : ℕ) (γ : List ℕ) → length γ ≡ m → 1 ≤ i → (j : ℕ) → 1 ≤ j → j ≤ m → (j ≡ i → ⊥) → at (insert v i γ) j ≡ at γ j
+at-insert-other v i γ e hi j h k d =
+    rw insert-extend (at-extend-low (at γ i) (put γ i v) (length-set γ (i - 1) v ∙ e) j h k ∙ getD-set-other γ (i - 1) (j - 1) v 0 (λ q. d (omega arith)))
+
+-- ---- following
+
+follow-add : (s : List ℕ) (t u i : ℕ) → follow s (t + u) i ≡ follow s t (follow s u i)
+unfolding follow
+follow-add s zero u i = rw zero-add
+follow-add s (suc t) u i = rw suc-add (ap (at s) (follow-add s t u i))
+
+follow-fixed : (s : List ℕ) (i : ℕ) → at s i ≡ i → (t : ℕ) → follow s t i ≡ i
+unfolding follow
+follow-fixed s i e zero = refl
+follow-fixed s i e (suc t) = ap (at s) (follow-fixed s i e t) ∙ e
+
+module _ {n : ℕ} {s : List ℕ} (p : IsPermutation n s) where
+  follow-range : (t i : ℕ) → 1 ≤ i → i ≤ n → (1 ≤ follow s t i) × (follow s t i ≤ n)
+  unfolding follow
+  follow-range zero i h k = (h, k)
+  follow-range (suc t) i h k = let r = follow-range t i h k in in-range p (follow s t i) (r .0) (r .1)
+
+  follow-injective : (t i j : ℕ) → 1 ≤ i → i ≤ n → 1 ≤ j → j ≤ n → follow s t i ≡ follow s t j → i ≡ j
+  unfolding follow
+  follow-injective zero i j hi ki hj kj e = e
+  follow-injective (suc t) i j hi ki hj kj e =
+      let a = follow-range t i hi ki in
+      let b = follow-range t j hj kj in
+      follow-injective t i j hi ki hj kj (injective p (follow s t i) (follow s t j) (a .0) (a .1) (b .0) (b .1) e)
+
+  -- equal positions after a and after b steps: b - a steps lead back
+  repeat-closes : (i a b : ℕ) → 1 ≤ i → i ≤ n → a < b → follow s a i ≡ follow s b i → follow s (b - a) i ≡ i
+  repeat-closes i a b h k l e =
+      let r = follow-range (b - a) i h k in
+      let d : a + (b - a) ≡ b = omega arith in
+      follow-injective a (follow s (b - a) i) i (r .0) (r .1) h k (sym (follow-add s a (b - a) i) ∙ rw d (sym e))
+
+-- a cycle closes within n steps
+pub closes : {n : ℕ} {s : List ℕ} → IsPermutation n s → (i : ℕ) → 1 ≤ i → i ≤ n → (t : ℕ) × (1 ≤ t) × (t ≤ n) × (follow s t i ≡ i)
+closes {n} {s} p i h k =
+    let (a, b, l, m, e) = pigeonhole n (λ t. follow s t i) (λ t _. follow-range p t i h k) in
+    (b - a, omega arith, omega arith, repeat-closes p i a b h k l e)
+
+-- what is met from i on a cycle that closes after c steps is met in fewer than c
+module _ (s : List ℕ) (i c : ℕ) (h : 1 ≤ c) (q : follow s c i ≡ i) where
+  met-step : (t u : ℕ) → follow s t i ≡ follow s u i → (suc u ≡ c) ⊎ (suc u < c) → (v : ℕ) × (v < c) × (follow s (suc t) i ≡ follow s v i)
+  unfolding follow
+  met-step t u e (inl d) = (0, h, ap (at s) e ∙ ap (λ x. follow s x i) d ∙ q)
+  met-step t u e (inr l) = (suc u, l, ap (at s) e)
+
+  met-before : (t : ℕ) → (u : ℕ) × (u < c) × (follow s t i ≡ follow s u i)
+  met-before zero = (0, h, refl)
+  met-before (suc t) = let (u, l, e) = met-before t in met-step t u e (eq-or-lt-of-le l)
+
+module _ {n : ℕ} {s : List ℕ} (p : IsPermutation n s) (i : ℕ) (h : 1 ≤ i) (k : i ≤ n) where
+  -- what is met from i is met within n steps
+  met-within : (t : ℕ) → (u : ℕ) × (u ≤ n) × (follow s t i ≡ follow s u i)
+  met-within t =
+      let (c, l, m, q) = closes p i h k in
+      let (u, b, e) = met-before s i c l q t in
+      (u, omega arith, e)
+
+  -- what is met from i is met from each position that is met from i
+  met-from : (t u : ℕ) → (v : ℕ) × (follow s u i ≡ follow s v (follow s t i))
+  met-from t u =
+      let (c, l, m, q) = closes p i h k in
+      let (w, b, e) = met-before s i c l q t in
+      let d : c - w + w ≡ c = omega arith in
+      let back : follow s (c - w) (follow s t i) ≡ i = ap (follow s (c - w)) e ∙ sym (follow-add s (c - w) w i) ∙ rw d q in
+      (u + (c - w), sym (follow-add s u (c - w) (follow s t i) ∙ ap (follow s u) back))
+
+-- ---- what `least` tests
+
+one-true : (b : Bool) → T b → one b ≡ 1
+one-true true h = refl
+one-true false h = absurd h
+
+one-false : (b : Bool) → (T b → ⊥) → one b ≡ 0
+one-false true h = absurd (h tt)
+one-false false h = refl
+
+one-zero : (b : Bool) → one b ≤ 0 → b ≡ false
+one-zero true h = absurd (omega arith)
+one-zero false h = refl
+
+-- where a range counts nothing, each of its numbers fails
+none-passes : (f : ℕ → Bool) (a n : ℕ) → tally f (range a n) ≤ 0 → (t : ℕ) → a ≤ t → t < a + n → f t ≡ false
+unfolding tally range
+none-passes f a zero h t l k = absurd (omega arith)
+none-passes f a (suc n) h t l k = first-or-later (λ m. none-passes f (suc a) n (omega arith) t m (omega arith)) (eq-or-lt-of-le l)
+  where
+    first-or-later : (a < t → f t ≡ false) → (a ≡ t) ⊎ (a < t) → f t ≡ false
+    first-or-later later (inl e) = rw (← e) (one-zero (f a) (omega arith))
+    first-or-later later (inr m) = later m
+
+-- where each number of a range fails, it counts nothing
+all-fail : (f : ℕ → Bool) (a n : ℕ) → ((t : ℕ) → a ≤ t → t < a + n → f t ≡ false) → tally f (range a n) ≤ 0
+unfolding tally range
+all-fail f a zero h = le-refl 0
+all-fail f a (suc n) h =
+    omega (arith, ap one (h a (le-refl a) (omega arith)), all-fail f (suc a) n (λ t l k. h t (omega arith) (omega arith)))
+
+-- no position met from i is below i, however many steps are made
+abbrev Low : List ℕ → ℕ → Type 0
+Low s i = (t : ℕ) → i ≤ follow s t i
+
+low-least : (s : List ℕ) (i : ℕ) → Low s i → T (least s i)
+unfolding least
+low-least s i low = rw (le-ltb 0 _ (all-fail (λ t. ltb (follow s t i) i) 1 (length s) (λ t _ _. le-ltb _ _ (low t)))) tt
+
+least-bound : (s : List ℕ) (i : ℕ) → T (least s i) → (t : ℕ) → t ≤ length s → i ≤ follow s t i
+unfolding least follow
+least-bound s i l zero k = le-refl i
+least-bound s i l (suc t) k =
+    ltb-false _ _ (none-passes (λ t. ltb (follow s t i) i) 1 (length s) (nltb→le _ _ l) (suc t) (omega arith) (omega arith))
+
+least-low : {n : ℕ} {s : List ℕ} → IsPermutation n s → (i : ℕ) → 1 ≤ i → i ≤ n → T (least s i) → Low s i
+least-low {n} {s} p i h k l t =
+    let (u, b, e) = met-within p i h k t in
+    rw e (least-bound s i l u (rw (p .size) b))
+
+-- the cycle of i holds a position that `least` counts
+pub has-least : {n : ℕ} {s : List ℕ} → IsPermutation n s → (i : ℕ) → 1 ≤ i → i ≤ n → (t : ℕ) × (t ≤ n) × T (least s (follow s t i))
+has-least {n} {s} p i h k =
+    let (t, b, low) = minimum (λ t. follow s t i) n in
+    (t, b, low-least s (follow s t i) (λ u. let (v, c, e) = met-within p i h k (u + t) in rw (← follow-add s u t i, e) (low v c)))
+
+-- a least position on the cycle of i is at most each position of the cycle
+least-le : {n : ℕ} {s : List ℕ} → IsPermutation n s → (i t u : ℕ) → 1 ≤ i → i ≤ n → T (least s (follow s t i)) → follow s t i ≤ follow s u i
+least-le {n} {s} p i t u h k l =
+    let r = follow-range p t i h k in
+    let (v, e) = met-from p i h k t u in
+    rw e (least-low p (follow s t i) (r .0) (r .1) l v)
+
+-- and only one
+pub one-least : {n : ℕ} {s : List ℕ} → IsPermutation n s → (i t u : ℕ) → 1 ≤ i → i ≤ n
+    → T (least s (follow s t i)) → T (least s (follow s u i)) → follow s t i ≡ follow s u i
+one-least p i t u h k lt lu = le-antisymm (least-le p i t u h k lt) (least-le p i u t h k lu)
+
+-- a position that leads to itself is least, and one that leads below itself is not
+fixed-least : (s : List ℕ) (i : ℕ) → at s i ≡ i → T (least s i)
+fixed-least s i e = low-least s i (λ t. omega (arith, follow-fixed s i e t))
+
+falls-least : (s : List ℕ) (i : ℕ) → 1 ≤ length s → at s i < i → T (least s i) → ⊥
+unfolding follow
+falls-least s i h k l = omega (arith, least-bound s i l 1 h)
+
+-- ---- one position more
+
+-- the position x of γ leads in s where it did in γ, straight or through the position m + 1
+data Leads (m : ℕ) (γ s : List ℕ) (x : ℕ) : Type 0 where
+  straight : at s x ≡ at γ x → Leads m γ s x
+  through : at s x ≡ suc m → at s (suc m) ≡ at γ x → Leads m γ s x
+
+-- x is met in γ from j; or it is m + 1, which leads in s to a position that is
+data Met (m : ℕ) (γ s : List ℕ) (j x : ℕ) : Type 0 where
+  old : (u : ℕ) → x ≡ follow γ u j → Met m γ s j x
+  new : (u : ℕ) → x ≡ suc m → at s (suc m) ≡ follow γ u j → Met m γ s j x
+
+-- tests that imply one another are equal
+same-test : (a b : Bool) → (T a → T b) → (T b → T a) → a ≡ b
+same-test true true f g = refl
+same-test true false f g = absurd (f tt)
+same-test false true f g = absurd (g tt)
+same-test false false f g = refl
+
+-- the cycle of j in γ and in s, which is γ with the position m + 1 added
+module _ {m : ℕ} {γ s : List ℕ} (p : IsPermutation m γ) (leads : (x : ℕ) → 1 ≤ x → x ≤ m → Leads m γ s x) (j : ℕ) (h : 1 ≤ j) (k : j ≤ m) where
+  leads-met : (t : ℕ) → Leads m γ s (follow γ t j)
+  leads-met t = let r = follow-range p t j h k in leads (follow γ t j) (r .0) (r .1)
+
+  shorter-step : (t u : ℕ) → follow γ t j ≡ follow s u j → Leads m γ s (follow γ t j) → (v : ℕ) × (follow γ (suc t) j ≡ follow s v j)
+  unfolding follow
+  shorter-step t u e (straight f) = (suc u, sym f ∙ ap (at s) e)
+  shorter-step t u e (through f g) = (suc (suc u), sym g ∙ ap (at s) (sym f ∙ ap (at s) e))
+
+  -- a position met in γ is met in s
+  shorter : (t : ℕ) → (u : ℕ) × (follow γ t j ≡ follow s u j)
+  unfolding follow
+  shorter zero = (0, refl)
+  shorter (suc t) = let (u, e) = shorter t in shorter-step t u e (leads-met t)
+
+  low-shorter : Low s j → Low γ j
+  low-shorter low t = let (u, e) = shorter t in rw e (low u)
+
+  longer-old : (u : ℕ) → Leads m γ s (follow γ u j) → Met m γ s j (at s (follow γ u j))
+  unfolding follow
+  longer-old u (straight f) = old (suc u) f
+  longer-old u (through f g) = new (suc u) f g
+
+  longer-step : (x : ℕ) → Met m γ s j x → Met m γ s j (at s x)
+  longer-step x (old u e) = rw e (longer-old u (leads-met u))
+  longer-step x (new u e f) = old u (ap (at s) e ∙ f)
+
+  -- a position met in s is met in γ, or is m + 1
+  longer : (t : ℕ) → Met m γ s j (follow s t j)
+  unfolding follow
+  longer zero = old 0 refl
+  longer (suc t) = longer-step (follow s t j) (longer t)
+
+  met-low : Low γ j → (x : ℕ) → Met m γ s j x → j ≤ x
+  met-low low x (old u e) = rw e (low u)
+  met-low low x (new u e f) = omega arith
+
+  low-longer : Low γ j → Low s j
+  low-longer low t = met-low low (follow s t j) (longer t)
+
+  least-same : IsPermutation (suc m) s → least s j ≡ least γ j
+  least-same q =
+      same-test (least s j) (least γ j) (λ l. low-least γ j (low-shorter (least-low q j h (omega arith) l))) (λ l. low-least s j (low-longer (least-low p j h k l)))
+
+-- s has as many cycles as γ, and one more where m + 1 is the least position of its cycle
+cycles-longer : {m : ℕ} {γ s : List ℕ} → IsPermutation m γ → IsPermutation (suc m) s → ((x : ℕ) → 1 ≤ x → x ≤ m → Leads m γ s x)
+    → cycles s ≡ cycles γ + one (least s (suc m))
+unfolding cycles tally
+cycles-longer {m} {γ} {s} p q leads =
+    let e : 1 + m ≡ suc m = omega arith in
+    let z : one (least s (suc m)) + 0 ≡ one (least s (suc m)) = omega arith in
+    rw (q .size, p .size, range-snoc, tally-append, tally-range-cong (least s) (least γ) 1 m (λ j h k. least-same p leads j h (omega arith) q), e, z)
+
+-- in E(γ) the new position is a cycle of its own
+pub cycles-extend : {m : ℕ} {γ : List ℕ} → IsPermutation m γ → cycles (extend (suc m) γ) ≡ suc (cycles γ)
+cycles-extend {m} {γ} p =
+    let s = extend (suc m) γ in
+    let new-least : one (least s (suc m)) ≡ 1 = one-true (least s (suc m)) (fixed-least s (suc m) (at-extend-top (suc m) γ (p .size))) in
+    omega (arith, cycles-longer p (extend-permutation p) (λ x h k. straight (at-extend-low (suc m) γ (p .size) x h k)))
+
+insert-leads : {m : ℕ} {γ : List ℕ} (i : ℕ) → 1 ≤ i → i ≤ m → IsPermutation m γ → (x : ℕ) → 1 ≤ x → x ≤ m → Dec (x ≡ i) → Leads m γ (insert (suc m) i γ) x
+insert-leads {m} {γ} i h k p x hx kx (yes e) = rw e (through (at-insert-here (suc m) i γ (p .size) h k) (at-insert-top (suc m) i γ (p .size)))
+insert-leads {m} {γ} i h k p x hx kx (no d) = straight (at-insert-other (suc m) i γ (p .size) h x hx kx d)
+
+-- in I(i,γ) the new position joins the cycle of i, between i and γ(i)
+pub cycles-insert : {m : ℕ} {γ : List ℕ} (i : ℕ) → 1 ≤ i → i ≤ m → IsPermutation m γ → cycles (insert (suc m) i γ) ≡ cycles γ
+cycles-insert {m} {γ} i h k p =
+    let s = insert (suc m) i γ in
+    let q = insert-permutation i h k p in
+    let falls : at s (suc m) < suc m = omega (arith, at-insert-top (suc m) i γ (p .size), in-range p i h k .1) in
+    let new-not : one (least s (suc m)) ≡ 0 = one-false (least s (suc m)) (falls-least s (suc m) (omega (arith, q .size)) falls) in
+    omega (arith, cycles-longer p q (λ x hx kx. insert-leads i h k p x hx kx (ℕ-discrete x i)))

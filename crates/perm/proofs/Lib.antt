@@ -1,0 +1,10 @@
+pub mod Tally
+pub mod Values
+pub mod Split
+pub mod Pigeonhole
+pub mod Cycles
+pub mod Exchange
+pub mod Arrays
+pub mod Parity
+pub mod Apart
+pub mod Checked

@@ -1,0 +1,130 @@
+-- Laws of the counts c(n,k), and what the checks 1, 2 and 3 say of n, k and a place when they pass.
+-- Assumes nothing.
+use Prim.Native.Nat.{ℕ, zero, suc, _+_, _*_, _^_, _≤_, _<_}
+use native.Mathlib.Omega.{arith}
+use native.Mathlib.Nat.{le-trans, lt-of-le-of-lt, lt-of-not-le, mul-le-mul, mul-le-mul-left, mul-zero, mul-pos}
+use mathlib.Core.Path.{_≡_, refl}
+use mathlib.Core.Bool.{Bool, true, false, not}
+use lib.Dec.{leb, lit<}
+use borrow.Author.Tests.{leb-true, leb-false, le-leb, lt-leb, not-false}
+use Rattle.stirling.specs.Refusal.{refuse, _then_, within}
+use Rattle.stirling.specs.Count.{c, checkSize, checkCycles, checkPlace, lookupOf}
+use Rattle.stirling.proofs.Refusals.{refuse-applies, refuse-passes, refuse-passed, then-passes, then-passed, within-holds, within-fails, within-true}
+
+-- c(n,k) = (n−1)×c(n−1,k) + c(n−1,k−1)
+pub recurrence : (n k : ℕ) → c (suc n) (suc k) ≡ n * c n (suc k) + c n k
+unfolding c
+recurrence n k = refl
+
+-- no permutation of n has more than n cycles
+pub above : (n k : ℕ) → n < k → c n k ≡ 0
+unfolding c
+above zero zero h = absurd (omega arith)
+above zero (suc k) h = refl
+above (suc n) zero h = absurd (omega arith)
+above (suc n) (suc k) h =
+    let e : c n (suc k) ≡ 0 = above n (suc k) (omega arith) in
+    let d : c n k ≡ 0 = above n k (omega arith) in
+    rw (e, d) (omega (arith, mul-zero n))
+
+-- a permutation of n ≥ 1 has at least one cycle
+pub no-cycle : (n : ℕ) → 1 ≤ n → c n 0 ≡ 0
+unfolding c
+no-cycle zero h = absurd (omega arith)
+no-cycle (suc n) h = refl
+
+-- nothing has one permutation, with no cycle
+nothing : c 0 0 ≡ 1
+unfolding c
+nothing = refl
+
+-- for every k from 1 to n some permutation of n has k cycles
+pub positive : (n k : ℕ) → 1 ≤ k → k ≤ n → 0 < c n k
+positive n zero l h = absurd (omega arith)
+positive zero (suc k) l h = absurd (omega arith)
+positive (suc zero) (suc zero) l h = rw recurrence (omega (arith, nothing))
+positive (suc zero) (suc (suc k)) l h = absurd (omega arith)
+positive (suc (suc n)) (suc zero) l h =
+    let p : 0 < suc n * c (suc n) 1 = mul-pos (omega arith) (positive (suc n) 1 l (omega arith)) in
+    rw recurrence (omega arith)
+positive (suc (suc n)) (suc (suc k)) l h =
+    let p : 0 < c (suc n) (suc k) = positive (suc n) (suc k) (omega arith) (omega arith) in
+    rw recurrence (omega arith)
+
+-- where there is a place, k is 1 to n
+pub inside : (n k r : ℕ) → 1 ≤ n → r < c n k → (1 ≤ k) × (k ≤ n)
+inside n zero r l h = absurd (omega (arith, no-cycle n l))
+inside n (suc k) r l h = (omega arith, lt-of-not-le (λ o. omega (arith, above n (suc k) (omega arith))))
+
+unfoldable factorial : ℕ → ℕ
+factorial zero = 1
+factorial (suc n) = suc n * factorial n
+
+-- the permutations of n with k cycles are among all permutations of n
+among : (n k : ℕ) → c n k ≤ factorial n
+unfolding c factorial
+among zero zero = omega arith
+among zero (suc k) = omega arith
+among (suc n) zero = omega arith
+among (suc n) (suc k) = omega (arith, mul-le-mul-left n (among n (suc k)), among n k)
+
+factorial-grows : (n m : ℕ) → n ≤ m → factorial n ≤ factorial m
+unfolding factorial
+factorial-grows zero zero h = omega arith
+factorial-grows zero (suc m) h = omega (arith, factorial-grows zero m (omega arith))
+factorial-grows (suc n) zero h = absurd (omega arith)
+factorial-grows (suc n) (suc m) h = mul-le-mul h (factorial-grows n m (omega arith))
+
+-- every count with n up to 20 fits 64 bits
+pub fits : (n k : ℕ) → n ≤ 20 → c n k < 2 ^ 64
+unfolding factorial
+fits n k h = lt-of-le-of-lt (le-trans (among n k) (factorial-grows n 20 h)) (lit< tt)
+
+-- check 1 passes where n is 1 to 20
+pub size-passes : (n : ℕ) → 1 ≤ n → n ≤ 20 → checkSize n ≡ 0
+size-passes n l h = rw (within-holds 1 20 n l h)
+
+-- and only there
+pub size-passed : (n : ℕ) → checkSize n ≡ 0 → (1 ≤ n) × (n ≤ 20)
+size-passed n e = within-true 1 20 n (not-false (within 1 20 n) (refuse-passed (not (within 1 20 n)) 0 e))
+
+-- elsewhere it refuses
+pub size-refuses : (n : ℕ) → (1 ≤ n → n ≤ 20 → ⊥) → checkSize n ≡ 1
+size-refuses n out = rw (within-fails 1 20 n out)
+
+-- checks 1 and 2 pass where n is at most 20 and k is 1 to n
+pub cycles-passes : (n k : ℕ) → n ≤ 20 → 1 ≤ k → k ≤ n → checkCycles n k ≡ 0
+cycles-passes n k h l u = rw (size-passes n (omega arith) h, within-holds 1 n k l u)
+
+-- and only there
+pub cycles-passed : (n k : ℕ) → checkCycles n k ≡ 0 → (1 ≤ n) × (n ≤ 20) × (1 ≤ k) × (k ≤ n)
+cycles-passed n k e =
+    let both = then-passed (checkSize n) (refuse (not (within 1 n k)) 2) e in
+    let size = size-passed n (both .0) in
+    let cycles = within-true 1 n k (not-false (within 1 n k) (refuse-passed (not (within 1 n k)) 1 (both .1))) in
+    (size .0, size .1, cycles .0, cycles .1)
+
+-- where check 1 passes, check 2 refuses a k that is not 1 to n
+pub cycles-refuses : (n k : ℕ) → checkSize n ≡ 0 → (1 ≤ k → k ≤ n → ⊥) → checkCycles n k ≡ 2
+cycles-refuses n k e out = rw (e, within-fails 1 n k out)
+
+-- checks 1, 2 and 3 pass where n is 1 to 20 and there is such a place
+pub place-passes : (n k r : ℕ) → 1 ≤ n → n ≤ 20 → r < c n k → checkPlace n k r ≡ 0
+place-passes n k r l h p =
+    let on = inside n k r l p in
+    rw (cycles-passes n k h (on .0) (on .1), lt-leb (c n k) r p)
+
+-- and only there
+pub place-passed : (n k r : ℕ) → checkPlace n k r ≡ 0 → (1 ≤ n) × (n ≤ 20) × (1 ≤ k) × (k ≤ n) × (r < c n k)
+place-passed n k r e =
+    let both = then-passed (checkCycles n k) (refuse (leb (c n k) r) 3) e in
+    let cycles = cycles-passed n k (both .0) in
+    (cycles .0, cycles .1, cycles .2, cycles .3, leb-false (c n k) r (refuse-passed (leb (c n k) r) 2 (both .1)))
+
+-- where checks 1 and 2 pass, check 3 refuses a place from c(n,k) on
+pub place-refuses : (n k r : ℕ) → checkCycles n k ≡ 0 → c n k ≤ r → checkPlace n k r ≡ 3
+place-refuses n k r e p = rw (e, le-leb (c n k) r p)
+
+-- the table's entry is the count
+pub looked-up : (n k : ℕ) → n ≤ 20 → lookupOf n k ≡ c n k
+looked-up n k h = rw (le-leb n 20 h)

@@ -1,0 +1,54 @@
+-- The rule of a flat table of 21 × 21 counts: one test, which antt computes, that each entry follows from those of the row before by the recurrence; and the law
+-- that a table that passes it holds c(n,k) at n * 21 + k. Assumes nothing.
+use Prim.Native.Nat.{ℕ, zero, suc, _+_, _*_, _≤_, _<_}
+use native.Mathlib.Omega.{arith}
+use mathlib.Core.Path.{_≡_, _∙_}
+use mathlib.Core.Bool.{Bool, true, false, _&&_}
+use mathlib.Core.List.{List}
+use lib.Dec.{T, eqb, eqb→eq}
+use lib.ListN.{getD}
+use Rattle.stirling.specs.Count.{c}
+
+abbrev pub entry : List ℕ → ℕ → ℕ → ℕ
+entry xs n k = getD xs (n * 21 + k) 0
+
+-- document 01's recurrence at n and k, between entries of the table
+abbrev pub right : List ℕ → ℕ → ℕ → Bool
+right xs zero zero = eqb (entry xs 0 0) 1
+right xs zero (suc k) = eqb (entry xs 0 (suc k)) 0
+right xs (suc n) zero = eqb (entry xs (suc n) 0) 0
+right xs (suc n) (suc k) = eqb (entry xs (suc n) (suc k)) (n * entry xs n (suc k) + entry xs n k)
+
+-- a test passes at each number below a bound
+abbrev pub all : (ℕ → Bool) → ℕ → Bool
+all f zero = true
+all f (suc m) = f 0 && all (λ i. f (suc i)) m
+
+-- the recurrence at every entry of the table
+abbrev pub recurrence : List ℕ → Bool
+recurrence xs = all (λ n. all (right xs n) 21) 21
+
+and-left : (a b : Bool) → T (a && b) → T a
+and-left true b t = tt
+and-left false b t = t
+
+and-right : (a b : Bool) → T (a && b) → T b
+and-right true b t = t
+and-right false b t = absurd t
+
+all-at : (f : ℕ → Bool) (m : ℕ) → T (all f m) → (i : ℕ) → i < m → T (f i)
+all-at f zero t i h = absurd (omega arith)
+all-at f (suc m) t zero h = and-left (f 0) (all (λ i. f (suc i)) m) t
+all-at f (suc m) t (suc i) h = all-at (λ i. f (suc i)) m (and-right (f 0) (all (λ i. f (suc i)) m) t) i (omega arith)
+
+right-at : (xs : List ℕ) → T (recurrence xs) → (n k : ℕ) → n ≤ 20 → k ≤ 20 → T (right xs n k)
+right-at xs t n k hn hk = all-at (right xs n) 21 (all-at (λ n. all (right xs n) 21) 21 t n (omega arith)) k (omega arith)
+
+-- a table that passes the test holds the counts
+pub counted : (xs : List ℕ) → T (recurrence xs) → (n k : ℕ) → n ≤ 20 → k ≤ 20 → entry xs n k ≡ c n k
+unfolding c
+counted xs t zero zero hn hk = eqb→eq _ _ (right-at xs t 0 0 hn hk)
+counted xs t zero (suc k) hn hk = eqb→eq _ _ (right-at xs t 0 (suc k) hn hk)
+counted xs t (suc n) zero hn hk = eqb→eq _ _ (right-at xs t (suc n) 0 hn hk)
+counted xs t (suc n) (suc k) hn hk =
+    eqb→eq _ _ (right-at xs t (suc n) (suc k) hn hk) ∙ rw (counted xs t n (suc k) (omega arith) hk, counted xs t n k (omega arith) (omega arith))

@@ -1,0 +1,42 @@
+/* The calls of libosierdrum.a. A slice passes as a pointer to its first byte and its length; a pointer may be any
+ * non-null value where the length is 0. Every call takes any numbers and any bytes: what it cannot serve it refuses,
+ * with zeros for the rest of its result and no byte written.
+ *
+ * Refusals: 0 none; 1 n is not 1 to 20; 2 k is not 1 to n; 3 place >= c(n,k); 4 m is not 1 to 1000, or more rows than
+ * are left; 5 a written slice has not the length asked for; 6 a value or an entry out of range; 7 a value twice. */
+#ifndef OSIERDRUM_H
+#define OSIERDRUM_H
+
+#include <stddef.h>
+#include <stdint.h>
+
+#ifdef __cplusplus
+extern "C" {
+#endif
+
+struct osierdrum_Count { uint8_t refusal; uint64_t count; };
+struct osierdrum_Rank { uint8_t refusal; uint64_t k; uint64_t place; };
+
+/* c(n,k), the number of permutations of n with exactly k cycles. Refusals 1, 2. */
+struct osierdrum_Count osierdrum_count(uint64_t n, uint64_t k);
+
+/* The permutation at a place of S(n,k), to n bytes. Refusals 1, 2, 3, 5. */
+uint8_t osierdrum_unrank(uint64_t n, uint64_t k, uint64_t place, uint8_t *out, size_t out_len);
+
+/* The number of cycles of a permutation and its place. Refusals 1, 6, 7. */
+struct osierdrum_Rank osierdrum_rank(const uint8_t *s, size_t s_len);
+
+/* The transposition array of a permutation. Refusals 1, 5, 6, 7. The two slices do not overlap. */
+uint8_t osierdrum_to_array(const uint8_t *s, size_t s_len, uint8_t *out, size_t out_len);
+
+/* The permutation of a transposition array. Refusals 1, 5, 6. The two slices do not overlap. */
+uint8_t osierdrum_from_array(const uint8_t *a, size_t a_len, uint8_t *out, size_t out_len);
+
+/* m permutations from a place on, one after another from byte o of buf on. Refusals 1, 2, 3, 4, 5. */
+uint8_t osierdrum_rows(uint64_t n, uint64_t k, uint64_t place, uint64_t m, uint64_t o, uint8_t *buf, size_t buf_len);
+
+#ifdef __cplusplus
+}
+#endif
+
+#endif

@@ -1,0 +1,188 @@
+//! Every permutation of n with exactly k cycles, in Baril's Gray-code order, by place.
+//!
+//! S(n,k) is the list of all permutations of n with exactly k cycles, for n from 1 to 20; neighbours in it, last and
+//! first too, differ on three positions. A permutation is n bytes, the value at each position; values, positions and
+//! cycles count from 1, places from 0.
+//!
+//! The work is done by `libosierdrum.a`, whose every function is proved to meet its contract for all inputs. Nothing
+//! that is handed in can make a call read or write outside its slices or fail to return; what a call cannot serve it
+//! refuses with a [`Refusal`], and then no byte of a lent slice has changed.
+//!
+//! ```
+//! // the eleven permutations of 4 with 2 cycles, and the last of them
+//! let rows = osierdrum::count(4, 2)?;
+//! assert_eq!(rows, 11);
+//! let mut row = [0; 4];
+//! osierdrum::unrank(4, 2, rows - 1, &mut row)?;
+//! assert_eq!(row, [3, 4, 1, 2]);
+//! assert_eq!(osierdrum::rank(&row)?, osierdrum::Rank { k: 2, place: 10 });
+//! # Ok::<(), osierdrum::Refusal>(())
+//! ```
+
+#![warn(missing_docs)]
+
+mod ffi;
+
+use std::{error::Error, fmt};
+
+/// Why a call was refused, with document 01's number.
+///
+/// ```
+/// use osierdrum::Refusal;
+/// assert_eq!(osierdrum::count(21, 1), Err(Refusal::Size));
+/// assert_eq!(Refusal::Size as u8, 1);
+/// ```
+#[derive(Clone, Copy, Debug, PartialEq, Eq, Hash, PartialOrd, Ord)]
+#[repr(u8)]
+pub enum Refusal {
+    /// 1: n, or a read slice's length as n, is not 1 to 20.
+    Size = 1,
+    /// 2: k is not 1 to n.
+    Cycles = 2,
+    /// 3: the place is c(n,k) or more.
+    Place = 3,
+    /// 4: the number of rows is not 1 to 1,000, or more than are left from the place on.
+    Rows = 4,
+    /// 5: a written slice has not the length that is asked for, or the rows do not fit behind the offset.
+    Lent = 5,
+    /// 6: a value is not 1 to n, or entry i of an array is not 1 to i.
+    Value = 6,
+    /// 7: a value occurs twice.
+    Twice = 7,
+}
+
+impl Refusal {
+    const ALL: [Refusal; 7] =
+        [Refusal::Size, Refusal::Cycles, Refusal::Place, Refusal::Rows, Refusal::Lent, Refusal::Value, Refusal::Twice];
+
+    /// The library's refusal number as a result: 0 is none. The library's contracts give no number but 0 to 7.
+    fn checked(number: u8) -> Result<(), Refusal> {
+        match number {
+            0 => Ok(()),
+            _ => Err(Self::ALL[usize::from(number) - 1]),
+        }
+    }
+}
+
+impl fmt::Display for Refusal {
+    fn fmt(&self, f: &mut fmt::Formatter<'_>) -> fmt::Result {
+        let why = match self {
+            Refusal::Size => "n is not 1 to 20",
+            Refusal::Cycles => "k is not 1 to n",
+            Refusal::Place => "the place is past the end of the list",
+            Refusal::Rows => "the number of rows is not 1 to 1000, or more than are left",
+            Refusal::Lent => "a lent slice has not the length that is asked for",
+            Refusal::Value => "a value or an entry is out of range",
+            Refusal::Twice => "a value occurs twice",
+        };
+        write!(f, "refused {}: {why}", *self as u8)
+    }
+}
+
+impl Error for Refusal {}
+
+/// Where a permutation stands: in S(n,k), n its length, at a place.
+///
+/// ```
+/// let stands = osierdrum::rank(&[3, 1, 4, 2, 5])?;
+/// assert_eq!((stands.k, stands.place), (2, 38));
+/// # Ok::<(), osierdrum::Refusal>(())
+/// ```
+#[derive(Clone, Copy, Debug, PartialEq, Eq, Hash)]
+pub struct Rank {
+    /// Its number of cycles.
+    pub k: u64,
+    /// Its place in S(n,k), from 0.
+    pub place: u64,
+}
+
+/// c(n,k): how many permutations of n have exactly k cycles, which is the length of S(n,k).
+///
+/// Refusals, in this order: [`Refusal::Size`], [`Refusal::Cycles`].
+///
+/// ```
+/// assert_eq!(osierdrum::count(5, 2), Ok(50));
+/// ```
+pub fn count(n: u64, k: u64) -> Result<u64, Refusal> {
+    // SAFETY: the call takes and returns plain numbers.
+    let answer = unsafe { ffi::osierdrum_count(n, k) };
+    Refusal::checked(answer.refusal).map(|()| answer.count)
+}
+
+/// Writes the permutation at a place of S(n,k) to `out`, which is n bytes long.
+///
+/// Refusals, in this order: [`Refusal::Size`], [`Refusal::Cycles`], [`Refusal::Place`], [`Refusal::Lent`].
+///
+/// ```
+/// let mut row = [0; 5];
+/// osierdrum::unrank(5, 2, 38, &mut row)?;
+/// assert_eq!(row, [3, 1, 4, 2, 5]);
+/// # Ok::<(), osierdrum::Refusal>(())
+/// ```
+pub fn unrank(n: u64, k: u64, place: u64, out: &mut [u8]) -> Result<(), Refusal> {
+    // SAFETY: the pointer and the length are those of one slice that is ours to write.
+    Refusal::checked(unsafe { ffi::osierdrum_unrank(n, k, place, out.as_mut_ptr(), out.len()) })
+}
+
+/// The number of cycles of a permutation and its place; n is the slice's length.
+///
+/// Refusals, in this order: [`Refusal::Size`], [`Refusal::Value`], [`Refusal::Twice`].
+///
+/// ```
+/// use osierdrum::{rank, Rank, Refusal};
+/// assert_eq!(rank(&[4, 2, 1, 3]), Ok(Rank { k: 2, place: 0 }));
+/// assert_eq!(rank(&[1, 1]), Err(Refusal::Twice));
+/// ```
+pub fn rank(s: &[u8]) -> Result<Rank, Refusal> {
+    // SAFETY: the pointer and the length are those of one slice.
+    let answer = unsafe { ffi::osierdrum_rank(s.as_ptr(), s.len()) };
+    Refusal::checked(answer.refusal).map(|()| Rank { k: answer.k, place: answer.place })
+}
+
+/// Writes the transposition array of the permutation `s` to `out`, which is as long: the one p with 1 ≤ p(i) ≤ i and
+/// s = ⟨p(1),1⟩·⟨p(2),2⟩·…·⟨p(n),n⟩.
+///
+/// Refusals, in this order: [`Refusal::Size`], [`Refusal::Lent`], [`Refusal::Value`], [`Refusal::Twice`].
+///
+/// ```
+/// let mut array = [0; 4];
+/// osierdrum::to_array(&[4, 2, 1, 3], &mut array)?;
+/// assert_eq!(array, [1, 2, 1, 1]);
+/// # Ok::<(), osierdrum::Refusal>(())
+/// ```
+pub fn to_array(s: &[u8], out: &mut [u8]) -> Result<(), Refusal> {
+    // SAFETY: each pointer and length are those of one slice, and the written one is ours alone.
+    Refusal::checked(unsafe { ffi::osierdrum_to_array(s.as_ptr(), s.len(), out.as_mut_ptr(), out.len()) })
+}
+
+/// Writes the permutation of the transposition array `a` to `out`, which is as long.
+///
+/// Refusals, in this order: [`Refusal::Size`], [`Refusal::Lent`], [`Refusal::Value`].
+///
+/// ```
+/// let mut s = [0; 4];
+/// osierdrum::from_array(&[1, 2, 1, 1], &mut s)?;
+/// assert_eq!(s, [4, 2, 1, 3]);
+/// # Ok::<(), osierdrum::Refusal>(())
+/// ```
+pub fn from_array(a: &[u8], out: &mut [u8]) -> Result<(), Refusal> {
+    // SAFETY: each pointer and length are those of one slice, and the written one is ours alone.
+    Refusal::checked(unsafe { ffi::osierdrum_from_array(a.as_ptr(), a.len(), out.as_mut_ptr(), out.len()) })
+}
+
+/// Writes `m` permutations of S(n,k) from a place on, one after another, into `buf` from byte `offset` on; the bytes
+/// before `offset` and after `offset + m * n` stay.
+///
+/// Refusals, in this order: [`Refusal::Size`], [`Refusal::Cycles`], [`Refusal::Place`], [`Refusal::Rows`],
+/// [`Refusal::Lent`].
+///
+/// ```
+/// let mut page = [9; 10];
+/// osierdrum::rows(4, 2, 5, 2, 1, &mut page)?;
+/// assert_eq!(page, [9, 3, 2, 4, 1, 3, 1, 2, 4, 9]);
+/// # Ok::<(), osierdrum::Refusal>(())
+/// ```
+pub fn rows(n: u64, k: u64, place: u64, m: u64, offset: u64, buf: &mut [u8]) -> Result<(), Refusal> {
+    // SAFETY: the pointer and the length are those of one slice that is ours to write.
+    Refusal::checked(unsafe { ffi::osierdrum_rows(n, k, place, m, offset, buf.as_mut_ptr(), buf.len()) })
+}

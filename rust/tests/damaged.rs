@@ -1,0 +1,168 @@
+//! Numbers, slices and offsets that nobody should hand in, in every call, with guard bytes around what is lent: the refusal is document 01's, and
+//! no other byte changes.
+
+mod reference;
+
+use osierdrum::{count, from_array, rank, rows, to_array, unrank, Refusal};
+use reference::{Random, Reference};
+
+/// Numbers at and beside every bound of document 01, and at the ends of the machine's words.
+const NUMBERS: [u64; 22] = [
+    0,
+    1,
+    2,
+    3,
+    5,
+    19,
+    20,
+    21,
+    49,
+    50,
+    255,
+    256,
+    999,
+    1000,
+    1001,
+    1 << 32,
+    (1 << 63) - 1,
+    1 << 63,
+    (1 << 63) + 1,
+    u64::MAX / 20,
+    u64::MAX - 1,
+    u64::MAX,
+];
+
+fn number(result: Result<(), Refusal>) -> u8 {
+    result.map_or_else(|refusal| refusal as u8, |()| 0)
+}
+
+/// Runs a call on a part of a larger buffer, and the reference on a copy: same refusal, same bytes, guards included.
+fn same(
+    size: usize,
+    call: impl Fn(&mut [u8]) -> Result<(), Refusal>,
+    expected: impl Fn(&mut [u8]) -> Result<(), u8>,
+) -> u8 {
+    const GUARD: usize = 32;
+    let before: Vec<u8> = (0..size + 2 * GUARD).map(|i| (i * 37 + 11) as u8).collect();
+    let (mut ours, mut theirs) = (before.clone(), before.clone());
+    let given = number(call(&mut ours[GUARD..GUARD + size]));
+    let right = expected(&mut theirs[GUARD..GUARD + size]).err().unwrap_or(0);
+    assert_eq!(given, right);
+    assert_eq!(ours, theirs);
+    if given != 0 {
+        assert_eq!(ours, before);
+    }
+    given
+}
+
+#[test]
+fn numbers_in_count_and_unrank() {
+    let reference = Reference::new();
+    let mut met = [0u32; 8];
+    for n in NUMBERS {
+        for k in NUMBERS {
+            assert_eq!(count(n, k).map_err(|refusal| refusal as u8), reference.count(n, k));
+            for place in NUMBERS {
+                for size in [0, 1, 2, 3, 5, 19, 20, 21, 64] {
+                    let refusal =
+                        same(size, |out| unrank(n, k, place, out), |out| reference.unrank(n, k, place, out));
+                    met[usize::from(refusal)] += 1;
+                }
+            }
+        }
+    }
+    assert!([0, 1, 2, 3, 5].iter().all(|&refusal| met[refusal] > 0), "{met:?}");
+}
+
+#[test]
+fn numbers_in_rows() {
+    let reference = Reference::new();
+    let mut met = [0u32; 8];
+    for n in NUMBERS {
+        for k in NUMBERS {
+            for place in [0, 1, 49, 50, 1 << 63, u64::MAX] {
+                for m in NUMBERS {
+                    for o in NUMBERS {
+                        for size in [0, 5, 60, 300] {
+                            let refusal = same(
+                                size,
+                                |buf| rows(n, k, place, m, o, buf),
+                                |buf| reference.rows(n, k, place, m, o, buf),
+                            );
+                            met[usize::from(refusal)] += 1;
+                        }
+                    }
+                }
+            }
+        }
+    }
+    assert!([0, 1, 2, 3, 4, 5].iter().all(|&refusal| met[refusal] > 0), "{met:?}");
+}
+
+#[test]
+fn offsets_in_rows() {
+    let reference = Reference::new();
+    for (n, k, place, m) in [(5, 2, 0, 50), (5, 2, 49, 1), (20, 10, 12345, 3), (1, 1, 0, 1)] {
+        for size in 0..=260 {
+            for o in (0..=size as u64 + 2).step_by(3).chain([size as u64, size as u64 + 1, u64::MAX]) {
+                same(size, |buf| rows(n, k, place, m, o, buf), |buf| reference.rows(n, k, place, m, o, buf));
+            }
+        }
+    }
+}
+
+/// A list of bytes that is near a permutation, an array, or neither.
+fn damaged(random: &mut Random, n: usize) -> Vec<u8> {
+    let mut s: Vec<u8> = (1..=n).map(|i| i as u8).collect();
+    for i in (1..n).rev() {
+        s.swap(i, random.below(i as u64 + 1) as usize);
+    }
+    match random.below(4) {
+        0 => {}
+        1 if n > 0 => s[random.below(n as u64) as usize] = random.next() as u8,
+        2 if n > 0 => s[random.below(n as u64) as usize] = random.below(n as u64 + 2) as u8,
+        _ => s.iter_mut().enumerate().for_each(|(i, p)| *p = random.below(i as u64 + 2) as u8),
+    }
+    s
+}
+
+#[test]
+fn slices_in_rank_and_arrays() {
+    let reference = Reference::new();
+    let mut random = Random(7);
+    let mut met = [[0u32; 8]; 3];
+    for _ in 0..60_000 {
+        let n = random.below(24) as usize;
+        let s = damaged(&mut random, n);
+        let size = if random.below(4) == 0 { random.below(24) as usize } else { n };
+        let given = rank(&s).map(|stands| (stands.k, stands.place)).map_err(|refusal| refusal as u8);
+        assert_eq!(given, reference.rank(&s), "{s:?}");
+        met[0][usize::from(given.err().unwrap_or(0))] += 1;
+        met[1][usize::from(same(size, |out| to_array(&s, out), |out| reference.to_array(&s, out)))] += 1;
+        met[2][usize::from(same(size, |out| from_array(&s, out), |out| reference.from_array(&s, out)))] += 1;
+    }
+    assert!([0, 1, 6, 7].iter().all(|&refusal| met[0][refusal] > 0), "{met:?}");
+    assert!([0, 1, 5, 6, 7].iter().all(|&refusal| met[1][refusal] > 0), "{met:?}");
+    assert!([0, 1, 5, 6].iter().all(|&refusal| met[2][refusal] > 0), "{met:?}");
+}
+
+#[test]
+fn every_short_slice() {
+    let reference = Reference::new();
+    for n in 0..=4u32 {
+        for code in 0..6u32.pow(n) {
+            let s: Vec<u8> = (0..n).map(|i| (code / 6u32.pow(i) % 6) as u8).collect();
+            assert_eq!(rank(&s).map(|r| (r.k, r.place)).map_err(|refusal| refusal as u8), reference.rank(&s));
+            same(n as usize, |out| to_array(&s, out), |out| reference.to_array(&s, out));
+            same(n as usize, |out| from_array(&s, out), |out| reference.from_array(&s, out));
+        }
+    }
+}
+
+#[test]
+fn all_values_before_any_repetition() {
+    assert_eq!(rank(&[1, 1, 9]), Err(Refusal::Value));
+    assert_eq!(to_array(&[2, 2, 0], &mut [0; 3]), Err(Refusal::Value));
+    assert_eq!(to_array(&[2, 2, 0], &mut [0; 4]), Err(Refusal::Lent));
+    assert_eq!(to_array(&[2, 2, 1], &mut [0; 3]), Err(Refusal::Twice));
+}

@@ -1,0 +1,348 @@
+//! An implementation of document 01's calls that shares nothing with the library: written from the procedure `gen_up` in the appendix of source
+//! document 004 (products on the left, the inverse kept beside the permutation), with the sense of each sublist as relations (a) to (e) give it.
+//! The tests and the benchmark compare the library with it.
+
+#![allow(dead_code)]
+
+pub const MOST: usize = 20;
+
+/// c(n,k), row by row from the recurrence.
+pub fn counts() -> [[u64; MOST + 1]; MOST + 1] {
+    let mut c = [[0u64; MOST + 1]; MOST + 1];
+    c[0][0] = 1;
+    for n in 1..=MOST {
+        for k in 1..=n {
+            c[n][k] = (n as u64 - 1) * c[n - 1][k] + c[n - 1][k - 1];
+        }
+    }
+    c
+}
+
+/// One instruction of `gen_up(n,k)`: multiply by ⟨j,n⟩ on the left, then generate S(n-1,k) upward or downward.
+#[derive(Clone, Copy)]
+pub struct Call {
+    pub j: usize,
+    pub k: usize,
+    pub up: bool,
+}
+
+pub struct Calls {
+    list: [Call; MOST],
+    len: usize,
+}
+
+impl Calls {
+    fn push(&mut self, j: usize, k: usize, up: bool) {
+        self.list[self.len] = Call { j, k, up };
+        self.len += 1;
+    }
+
+    /// The instruction at a number, counted in the order of `gen_up` or, for `gen_down`, in the inverse order and each turned.
+    fn get(&self, at: usize, up: bool) -> Option<Call> {
+        if at >= self.len {
+            return None;
+        }
+        if up {
+            return Some(self.list[at]);
+        }
+        let call = self.list[self.len - 1 - at];
+        Some(Call { up: !call.up, ..call })
+    }
+}
+
+/// The instructions of `gen_up(n,k)` for 1 ≤ k < n, in the appendix's order.
+pub fn calls(n: usize, k: usize) -> Calls {
+    let even = |e: usize| e % 2 == 0;
+    let mut out = Calls { list: [Call { j: 0, k: 0, up: true }; MOST], len: 0 };
+    if n == 4 && k == 1 {
+        out.push(1, k, true);
+        out.push(2, k, false);
+        out.push(3, k, false);
+    } else if k == n - 1 {
+        out.push(1, k, true);
+        if n - 1 > 1 {
+            out.push(n - 1, k, true);
+        }
+        for j in (2..=n.saturating_sub(3)).rev() {
+            out.push(j, k, true);
+        }
+        if n - 2 > 1 {
+            out.push(n - 2, k, true);
+        }
+        if k >= 2 {
+            out.push(n, k - 1, false);
+        }
+    } else if k == n - 2 {
+        out.push(1, k, true);
+        for j in 3..n {
+            out.push(j, k, even(j));
+        }
+        if k >= 2 {
+            out.push(n, k - 1, true);
+        }
+        out.push(2, k, false);
+    } else if k == 1 {
+        out.push(1, k, true);
+        for j in (4..n).rev() {
+            out.push(j, k, even(j + 1));
+        }
+        out.push(2, k, true);
+        out.push(3, k, false);
+    } else {
+        out.push(1, k, true);
+        for j in (k + 1..n).rev() {
+            out.push(j, k, even(j));
+        }
+        out.push(n, k - 1, even(k));
+        for j in (2..=k).rev() {
+            out.push(j, k, even(j - 1));
+        }
+    }
+    out
+}
+
+/// A permutation with its inverse; index 0 is unused.
+pub struct Sigma {
+    value: [u8; MOST + 1],
+    inverse: [u8; MOST + 1],
+}
+
+impl Sigma {
+    fn identity() -> Sigma {
+        let mut value = [0; MOST + 1];
+        for (i, v) in value.iter_mut().enumerate() {
+            *v = i as u8;
+        }
+        Sigma { value, inverse: value }
+    }
+
+    /// The product ⟨x,y⟩·σ: the values x and y change places.
+    fn left(&mut self, x: usize, y: usize) {
+        let (a, b) = (usize::from(self.inverse[x]), usize::from(self.inverse[y]));
+        self.value.swap(a, b);
+        self.inverse.swap(x, y);
+    }
+
+    fn generate(&mut self, size: usize, n: usize, k: usize, up: bool, print: &mut impl FnMut(&[u8])) {
+        if n == k {
+            print(&self.value[1..=size]);
+            return;
+        }
+        let instructions = calls(n, k);
+        let mut at = 0;
+        while let Some(call) = instructions.get(at, up) {
+            self.left(call.j, n);
+            self.generate(size, n - 1, call.k, call.up, print);
+            self.left(call.j, n);
+            at += 1;
+        }
+    }
+}
+
+/// Every row of S(n,k), in order.
+pub fn list(n: usize, k: usize) -> Vec<Vec<u8>> {
+    let mut rows = Vec::new();
+    Sigma::identity().generate(n, n, k, true, &mut |row| rows.push(row.to_vec()));
+    rows
+}
+
+/// The calls with document 01's refusals.
+pub struct Reference {
+    c: [[u64; MOST + 1]; MOST + 1],
+}
+
+impl Reference {
+    pub fn new() -> Reference {
+        Reference { c: counts() }
+    }
+
+    fn numbers(&self, n: u64, k: u64) -> Result<(usize, usize), u8> {
+        if !(1..=20).contains(&n) {
+            return Err(1);
+        }
+        if !(1..=n).contains(&k) {
+            return Err(2);
+        }
+        Ok((n as usize, k as usize))
+    }
+
+    pub fn count(&self, n: u64, k: u64) -> Result<u64, u8> {
+        let (n, k) = self.numbers(n, k)?;
+        Ok(self.c[n][k])
+    }
+
+    /// The row at a place, by going down the generating tree and passing over what stands before it.
+    fn row(&self, size: usize, k: usize, place: u64, out: &mut [u8]) {
+        let mut sigma = Sigma::identity();
+        let (mut n, mut k, mut up, mut left) = (size, k, true, place);
+        while n != k {
+            let instructions = calls(n, k);
+            let mut at = 0;
+            while let Some(call) = instructions.get(at, up) {
+                let rows = self.c[n - 1][call.k];
+                if left < rows {
+                    sigma.left(call.j, n);
+                    (n, k, up) = (n - 1, call.k, call.up);
+                    break;
+                }
+                left -= rows;
+                at += 1;
+            }
+        }
+        out.copy_from_slice(&sigma.value[1..=size]);
+    }
+
+    pub fn unrank(&self, n: u64, k: u64, place: u64, out: &mut [u8]) -> Result<(), u8> {
+        let (n, k) = self.numbers(n, k)?;
+        if place >= self.c[n][k] {
+            return Err(3);
+        }
+        if out.len() != n {
+            return Err(5);
+        }
+        self.row(n, k, place, out);
+        Ok(())
+    }
+
+    fn permutation(s: &[u8]) -> Result<(), u8> {
+        let n = s.len();
+        if s.iter().any(|&v| v == 0 || usize::from(v) > n) {
+            return Err(6);
+        }
+        let mut seen = [false; MOST + 1];
+        for &v in s {
+            if std::mem::replace(&mut seen[usize::from(v)], true) {
+                return Err(7);
+            }
+        }
+        Ok(())
+    }
+
+    /// The cycles of a permutation, each followed until it closes.
+    fn cycles(s: &[u8]) -> usize {
+        let mut met = [false; MOST + 1];
+        let mut cycles = 0;
+        for i in 0..s.len() {
+            if met[i] {
+                continue;
+            }
+            cycles += 1;
+            let mut at = i;
+            while !met[at] {
+                met[at] = true;
+                at = usize::from(s[at]) - 1;
+            }
+        }
+        cycles
+    }
+
+    fn array(s: &[u8], out: &mut [u8]) {
+        let mut value = [0u8; MOST + 1];
+        let mut inverse = [0u8; MOST + 1];
+        for (i, &v) in s.iter().enumerate() {
+            value[i + 1] = v;
+            inverse[usize::from(v)] = i as u8 + 1;
+        }
+        for m in (1..=s.len()).rev() {
+            let i = usize::from(inverse[m]);
+            out[m - 1] = i as u8;
+            let moved = value[m];
+            value[i] = moved;
+            inverse[usize::from(moved)] = i as u8;
+        }
+    }
+
+    pub fn rank(&self, s: &[u8]) -> Result<(u64, u64), u8> {
+        if !(1..=MOST).contains(&s.len()) {
+            return Err(1);
+        }
+        Self::permutation(s)?;
+        let mut array = [0; MOST];
+        Self::array(s, &mut array[..s.len()]);
+        let cycles = Self::cycles(s);
+        let (mut n, mut k, mut up, mut place) = (s.len(), cycles, true, 0);
+        while n != k {
+            let j = usize::from(array[n - 1]);
+            let instructions = calls(n, k);
+            let mut at = 0;
+            while let Some(call) = instructions.get(at, up) {
+                if call.j == j {
+                    (n, k, up) = (n - 1, call.k, call.up);
+                    break;
+                }
+                place += self.c[n - 1][call.k];
+                at += 1;
+            }
+        }
+        Ok((cycles as u64, place))
+    }
+
+    pub fn to_array(&self, s: &[u8], out: &mut [u8]) -> Result<(), u8> {
+        if !(1..=MOST).contains(&s.len()) {
+            return Err(1);
+        }
+        if out.len() != s.len() {
+            return Err(5);
+        }
+        Self::permutation(s)?;
+        Self::array(s, out);
+        Ok(())
+    }
+
+    /// The product ⟨p1,1⟩·⟨p2,2⟩·…·⟨pn,n⟩, multiplied out from the left.
+    pub fn from_array(&self, a: &[u8], out: &mut [u8]) -> Result<(), u8> {
+        if !(1..=MOST).contains(&a.len()) {
+            return Err(1);
+        }
+        if out.len() != a.len() {
+            return Err(5);
+        }
+        if a.iter().enumerate().any(|(i, &p)| p == 0 || usize::from(p) > i + 1) {
+            return Err(6);
+        }
+        for (i, v) in out.iter_mut().enumerate() {
+            *v = i as u8 + 1;
+        }
+        for (i, &p) in a.iter().enumerate() {
+            out.swap(usize::from(p) - 1, i);
+        }
+        Ok(())
+    }
+
+    pub fn rows(&self, n: u64, k: u64, place: u64, m: u64, o: u64, buf: &mut [u8]) -> Result<(), u8> {
+        let (n, k) = self.numbers(n, k)?;
+        if place >= self.c[n][k] {
+            return Err(3);
+        }
+        if !(1..=1000).contains(&m) || m > self.c[n][k] - place {
+            return Err(4);
+        }
+        let size = buf.len() as u64;
+        if o > size || size - o < m * n as u64 {
+            return Err(5);
+        }
+        let part = &mut buf[o as usize..][..m as usize * n];
+        for (i, row) in part.chunks_exact_mut(n).enumerate() {
+            self.row(n, k, place + i as u64, row);
+        }
+        Ok(())
+    }
+}
+
+/// SplitMix64: numbers that are the same in each run.
+pub struct Random(pub u64);
+
+impl Random {
+    pub fn next(&mut self) -> u64 {
+        self.0 = self.0.wrapping_add(0x9e37_79b9_7f4a_7c15);
+        let mut z = self.0;
+        z = (z ^ (z >> 30)).wrapping_mul(0xbf58_476d_1ce4_e5b9);
+        z = (z ^ (z >> 27)).wrapping_mul(0x94d0_49bb_1331_11eb);
+        z ^ (z >> 31)
+    }
+
+    /// A number below a bound.
+    pub fn below(&mut self, bound: u64) -> u64 {
+        self.next() % bound
+    }
+}
