@@ -1,5 +1,5 @@
 -- Document 01's plain machine of demand 3: it holds n, k and a place and nothing else, and moves by the calls alone. These are definitions; nothing is assumed.
-use Prim.Native.Nat.{ℕ, zero, suc, _+_, _-_}
+use Prim.Native.Nat.{ℕ, suc, _+_, _-_}
 use mathlib.Core.Bool.{cond}
 use mathlib.Core.List.{List, [], _∷_, _++_}
 use lib.Dec.{eqb, leb}

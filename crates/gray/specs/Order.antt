@@ -1,6 +1,6 @@
 -- The list S(n,k): document 01's "The order, S(n,k)", relation by relation. These are definitions; nothing is assumed.
 use Prim.Native.Nat.{ℕ, zero, suc, _+_, _-_}
-use mathlib.Core.Bool.{Bool, true, false, not, cond, _||_}
+use mathlib.Core.Bool.{Bool, false, not, cond, _||_}
 use mathlib.Core.List.{List, [], _∷_, _++_, map, reverse}
 use lib.Dec.{eqb, ltb}
 use Rattle.perm.specs.Lists.{positions}

@@ -1,27 +1,24 @@
 -- What the checks 6 and 7 leave is a permutation, and nothing that is one is refused; the same for check 6 on arrays. Assumes nothing.
 use mathlib.Core.Path.{_≡_, refl, ap}
-use Prim.Native.Nat.{ℕ, _+_, _-_, _≤_, _<_}
+use Prim.Native.Nat.{ℕ, suc, _+_, _-_, _≤_, _<_}
 use native.Mathlib.Omega.{arith}
-use mathlib.Core.Bool.{Bool, true, false, not}
+use mathlib.Core.Bool.{Bool, false, not}
 use mathlib.Core.List.{List}
 use lib.Dec.{eqb, ltb}
 use lib.ListN.{length}
 use borrow.Author.Tests.{ltb-false, le-ltb, not-false}
 use Rattle.stirling.specs.Refusal.{refuse, within}
+use Rattle.stirling.proofs.Refusals.{refuse-passed, within-true, within-holds}
 use Rattle.perm.specs.Lists.{tally, some, positions}
 use Rattle.perm.specs.Permutation.{IsPermutation, at}
 use Rattle.perm.specs.Array.{IsArray}
 use Rattle.perm.specs.Checks.{checkValues, checkTwice, checkEntries, checkPermutation}
 use Rattle.perm.proofs.Tally.{none-passes, tally-none, range-none-passes, range-tally-none}
-use Rattle.perm.proofs.Values.{within-true, le-within, in-range, entries-within, counted}
-
-not-refused : (b : Bool) (number : ℕ) → 1 ≤ number → refuse b number ≡ 0 → b ≡ false
-not-refused true number h e = absurd (omega arith)
-not-refused false number h e = refl
+use Rattle.perm.proofs.Values.{in-range, entries-within, counted}
 
 -- A check whether some element passes a test: where it refuses nothing, no element does
-unrefused {ℓ} : {A : Type ℓ} (p : A → Bool) (s : List A) (number : ℕ) → 1 ≤ number → refuse (some p s) number ≡ 0 → tally p s ≡ 0
-unrefused p s number h e = omega (arith, ltb-false 0 (tally p s) (not-refused (some p s) number h e))
+unrefused {ℓ} : {A : Type ℓ} (p : A → Bool) (s : List A) (number : ℕ) → refuse (some p s) (suc number) ≡ 0 → tally p s ≡ 0
+unrefused p s number e = omega (arith, ltb-false 0 (tally p s) (refuse-passed (some p s) number e))
 
 -- and the converse
 unrefused-by {ℓ} : {A : Type ℓ} (p : A → Bool) (s : List A) (number : ℕ) → tally p s ≡ 0 → refuse (some p s) number ≡ 0
@@ -41,8 +38,8 @@ above p i = not (within 1 i (at p i))
 pub checked : (s : List ℕ) → checkValues s ≡ 0 → checkTwice s ≡ 0 → IsPermutation (length s) s
 checked s h k =
     let n = length s in
-    let values = none-passes (outside s) 0 s (unrefused (outside s) s 6 (omega arith) h) in
-    let once = range-none-passes (twice s) 1 n (unrefused (twice s) (positions n) 7 (omega arith) k) in
+    let values = none-passes (outside s) 0 s (unrefused (outside s) s 5 h) in
+    let once = range-none-passes (twice s) 1 n (unrefused (twice s) (positions n) 6 k) in
     counted
     s
     refl
@@ -66,13 +63,13 @@ passes-twice {n} {s} p = unrefused-by (twice s) (positions (length s)) 7 (range-
 pub passes : {n : ℕ} {s : List ℕ} → 1 ≤ n → n ≤ 20 → IsPermutation n s → checkPermutation s ≡ 0
 passes {n} {s} h k p =
     let z = p .size in
-    rw (le-within 1 20 (length s) (omega arith) (omega arith), passes-values p, passes-twice p)
+    rw (within-holds 1 20 (length s) (omega arith) (omega arith), passes-values p, passes-twice p)
 
 -- what check 6 does not refuse is an array
 pub checked-array : (p : List ℕ) → checkEntries p ≡ 0 → IsArray (length p) p
 checked-array p h =
     let n = length p in
-    let entries = range-none-passes (above p) 1 n (unrefused (above p) (positions n) 6 (omega arith) h) in
+    let entries = range-none-passes (above p) 1 n (unrefused (above p) (positions n) 5 h) in
     record {
       size = refl;
       bound = λ i a b. within-true 1 i (at p i) (not-false (within 1 i (at p i)) (entries i a (omega arith)));
@@ -83,4 +80,4 @@ pub passes-array : {n : ℕ} {p : List ℕ} → IsArray n p → checkEntries p �
 passes-array {n} {p} a = unrefused-by (above p) (positions (length p)) 6 (range-tally-none (above p) 1 (length p) inside)
   where
     inside : (i : ℕ) → 1 ≤ i → i < 1 + length p → above p i ≡ false
-    inside i h k = let b = a .bound i h (omega (arith, a .size)) in ap not (le-within 1 i (at p i) (b .0) (b .1))
+    inside i h k = let b = a .bound i h (omega (arith, a .size)) in ap not (within-holds 1 i (at p i) (b .0) (b .1))

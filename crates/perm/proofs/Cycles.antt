@@ -3,47 +3,21 @@
 use mathlib.Core.Path.{_≡_, refl, sym, ap, _∙_}
 use mathlib.Core.Logic.{_⊎_, inl, inr}
 use mathlib.Core.Bool.{Bool, true, false}
-use mathlib.Core.List.{List, [], _∷_}
+use mathlib.Core.List.{List}
 use Prim.Native.Nat.{ℕ, zero, suc, _+_, _-_, _≤_, _<_}
 use native.Mathlib.Nat.{eq-or-lt-of-le, le-refl, le-antisymm, zero-add, suc-add}
 use native.Mathlib.Decide.{ℕ-discrete}
 use native.Mathlib.Omega.{arith}
 use lib.Dec.{T, ltb, nltb→le}
-use lib.ListN.{length, length-set, List·getD-append}
-use lib.Seq.{getD-at, getD-set-same, getD-set-other}
+use lib.ListN.{length}
 use borrow.Author.Tests.{ltb-false, le-ltb}
-use Rattle.perm.specs.Lists.{one, tally, range}
-use Rattle.perm.specs.Permutation.{IsPermutation, at, put, extend, insert}
+use Rattle.perm.specs.Lists.{one, tally, positions}
+use Rattle.perm.specs.Permutation.{IsPermutation, at, extend, insert}
 use Rattle.perm.specs.Cycle.{follow, least, cycles}
-use Rattle.perm.proofs.Tally.{tally-append, tally-range-cong, range-snoc}
+use Rattle.perm.proofs.Tally.{tally-positions, tally-range-cong, range-none-passes, range-tally-none}
 use Rattle.perm.proofs.Values.{in-range, injective}
-use Rattle.perm.proofs.Split.{extend-permutation, insert-permutation}
+use Rattle.perm.proofs.Split.{extend-permutation, insert-permutation, at-extend-low, at-extend-top, at-insert-here, at-insert-top, at-insert-other}
 use Rattle.perm.proofs.Pigeonhole.{pigeonhole, minimum}
-
--- ---- the values of E(γ) and I(i,γ), position by position
-
-at-extend-low : {m : ℕ} (v : ℕ) (γ : List ℕ) → length γ ≡ m → (j : ℕ) → 1 ≤ j → j ≤ m → at (extend v γ) j ≡ at γ j
-unfolding extend
-at-extend-low v γ e j h k = List·getD-append γ (v ∷ []) 0 (j - 1) (omega arith)
-
-at-extend-top : {m : ℕ} (v : ℕ) (γ : List ℕ) → length γ ≡ m → at (extend v γ) (suc m) ≡ v
-unfolding extend
-at-extend-top {m} v γ e = getD-at γ v [] 0 (suc m - 1) (omega arith)
-
-insert-extend : (v i : ℕ) (γ : List ℕ) → insert v i γ ≡ extend (at γ i) (put γ i v)
-unfolding insert extend
-insert-extend v i γ = refl
-
-at-insert-here : {m : ℕ} (v i : ℕ) (γ : List ℕ) → length γ ≡ m → 1 ≤ i → i ≤ m → at (insert v i γ) i ≡ v
-at-insert-here v i γ e h k =
-    rw insert-extend (at-extend-low (at γ i) (put γ i v) (length-set γ (i - 1) v ∙ e) i h k ∙ getD-set-same γ (i - 1) v 0 (omega arith))
-
-at-insert-top : {m : ℕ} (v i : ℕ) (γ : List ℕ) → length γ ≡ m → at (insert v i γ) (suc m) ≡ at γ i
-at-insert-top v i γ e = rw insert-extend (at-extend-top (at γ i) (put γ i v) (length-set γ (i - 1) v ∙ e))
-
-at-insert-other : {m : ℕ} (v i : ℕ) (γ : List ℕ) → length γ ≡ m → 1 ≤ i → (j : ℕ) → 1 ≤ j → j ≤ m → (j ≡ i → ⊥) → at (insert v i γ) j ≡ at γ j
-at-insert-other v i γ e hi j h k d =
-    rw insert-extend (at-extend-low (at γ i) (put γ i v) (length-set γ (i - 1) v ∙ e) j h k ∙ getD-set-other γ (i - 1) (j - 1) v 0 (λ q. d (omega arith)))
 
 -- ---- following
 
@@ -122,40 +96,20 @@ one-false : (b : Bool) → (T b → ⊥) → one b ≡ 0
 one-false true h = absurd (h tt)
 one-false false h = refl
 
-one-zero : (b : Bool) → one b ≤ 0 → b ≡ false
-one-zero true h = absurd (omega arith)
-one-zero false h = refl
-
--- where a range counts nothing, each of its numbers fails
-none-passes : (f : ℕ → Bool) (a n : ℕ) → tally f (range a n) ≤ 0 → (t : ℕ) → a ≤ t → t < a + n → f t ≡ false
-unfolding tally range
-none-passes f a zero h t l k = absurd (omega arith)
-none-passes f a (suc n) h t l k = first-or-later (λ m. none-passes f (suc a) n (omega arith) t m (omega arith)) (eq-or-lt-of-le l)
-  where
-    first-or-later : (a < t → f t ≡ false) → (a ≡ t) ⊎ (a < t) → f t ≡ false
-    first-or-later later (inl e) = rw (← e) (one-zero (f a) (omega arith))
-    first-or-later later (inr m) = later m
-
--- where each number of a range fails, it counts nothing
-all-fail : (f : ℕ → Bool) (a n : ℕ) → ((t : ℕ) → a ≤ t → t < a + n → f t ≡ false) → tally f (range a n) ≤ 0
-unfolding tally range
-all-fail f a zero h = le-refl 0
-all-fail f a (suc n) h =
-    omega (arith, ap one (h a (le-refl a) (omega arith)), all-fail f (suc a) n (λ t l k. h t (omega arith) (omega arith)))
-
 -- no position met from i is below i, however many steps are made
 abbrev Low : List ℕ → ℕ → Type 0
 Low s i = (t : ℕ) → i ≤ follow s t i
 
 low-least : (s : List ℕ) (i : ℕ) → Low s i → T (least s i)
 unfolding least
-low-least s i low = rw (le-ltb 0 _ (all-fail (λ t. ltb (follow s t i) i) 1 (length s) (λ t _ _. le-ltb _ _ (low t)))) tt
+low-least s i low = rw (range-tally-none (λ t. ltb (follow s t i) i) 1 (length s) (λ t _ _. le-ltb _ _ (low t))) tt
 
 least-bound : (s : List ℕ) (i : ℕ) → T (least s i) → (t : ℕ) → t ≤ length s → i ≤ follow s t i
 unfolding least follow
 least-bound s i l zero k = le-refl i
 least-bound s i l (suc t) k =
-    ltb-false _ _ (none-passes (λ t. ltb (follow s t i) i) 1 (length s) (nltb→le _ _ l) (suc t) (omega arith) (omega arith))
+    let none : tally (λ t. ltb (follow s t i) i) (positions (length s)) ≤ 0 = nltb→le _ _ l in
+    ltb-false _ _ (range-none-passes (λ t. ltb (follow s t i) i) 1 (length s) (omega arith) (suc t) (omega arith) (omega arith))
 
 least-low : {n : ℕ} {s : List ℕ} → IsPermutation n s → (i : ℕ) → 1 ≤ i → i ≤ n → T (least s i) → Low s i
 least-low {n} {s} p i h k l t =
@@ -257,26 +211,24 @@ cycles-longer : {m : ℕ} {γ s : List ℕ} → IsPermutation m γ → IsPermuta
     → cycles s ≡ cycles γ + one (least s (suc m))
 unfolding cycles tally
 cycles-longer {m} {γ} {s} p q leads =
-    let e : 1 + m ≡ suc m = omega arith in
-    let z : one (least s (suc m)) + 0 ≡ one (least s (suc m)) = omega arith in
-    rw (q .size, p .size, range-snoc, tally-append, tally-range-cong (least s) (least γ) 1 m (λ j h k. least-same p leads j h (omega arith) q), e, z)
+    rw (q .size, p .size, tally-positions, tally-range-cong (least s) (least γ) 1 m (λ j h k. least-same p leads j h (omega arith) q))
 
 -- in E(γ) the new position is a cycle of its own
 pub cycles-extend : {m : ℕ} {γ : List ℕ} → IsPermutation m γ → cycles (extend (suc m) γ) ≡ suc (cycles γ)
 cycles-extend {m} {γ} p =
     let s = extend (suc m) γ in
-    let new-least : one (least s (suc m)) ≡ 1 = one-true (least s (suc m)) (fixed-least s (suc m) (at-extend-top (suc m) γ (p .size))) in
-    omega (arith, cycles-longer p (extend-permutation p) (λ x h k. straight (at-extend-low (suc m) γ (p .size) x h k)))
+    let new-least : one (least s (suc m)) ≡ 1 = one-true (least s (suc m)) (fixed-least s (suc m) (at-extend-top γ (p .size))) in
+    omega (arith, cycles-longer p (extend-permutation p) (λ x h k. straight (at-extend-low γ (p .size) x h k)))
 
 insert-leads : {m : ℕ} {γ : List ℕ} (i : ℕ) → 1 ≤ i → i ≤ m → IsPermutation m γ → (x : ℕ) → 1 ≤ x → x ≤ m → Dec (x ≡ i) → Leads m γ (insert (suc m) i γ) x
-insert-leads {m} {γ} i h k p x hx kx (yes e) = rw e (through (at-insert-here (suc m) i γ (p .size) h k) (at-insert-top (suc m) i γ (p .size)))
-insert-leads {m} {γ} i h k p x hx kx (no d) = straight (at-insert-other (suc m) i γ (p .size) h x hx kx d)
+insert-leads {m} {γ} i h k p x hx kx (yes e) = rw e (through (at-insert-here γ i h k (p .size)) (at-insert-top γ i h k (p .size)))
+insert-leads {m} {γ} i h k p x hx kx (no d) = straight (at-insert-other γ i h k (p .size) x hx kx d)
 
 -- in I(i,γ) the new position joins the cycle of i, between i and γ(i)
 pub cycles-insert : {m : ℕ} {γ : List ℕ} (i : ℕ) → 1 ≤ i → i ≤ m → IsPermutation m γ → cycles (insert (suc m) i γ) ≡ cycles γ
 cycles-insert {m} {γ} i h k p =
     let s = insert (suc m) i γ in
     let q = insert-permutation i h k p in
-    let falls : at s (suc m) < suc m = omega (arith, at-insert-top (suc m) i γ (p .size), in-range p i h k .1) in
+    let falls : at s (suc m) < suc m = omega (arith, at-insert-top γ i h k (p .size), in-range p i h k .1) in
     let new-not : one (least s (suc m)) ≡ 0 = one-false (least s (suc m)) (falls-least s (suc m) (omega (arith, q .size)) falls) in
     omega (arith, cycles-longer p q (λ x hx kx. insert-leads i h k p x hx kx (ℕ-discrete x i)))

@@ -14,10 +14,11 @@ use Rattle.perm.specs.Permutation.{IsPermutation, at, put, extend, inser
 use Rattle.perm.proofs.Tally.{tally-append, tally-set}
 use Rattle.perm.proofs.Values.{in-range, onto, beyond, at-suc}
 
--- a list with one value added: the values before it, and it
+-- a list with one value added at its end: the values before it
 at-snoc-low : (s : List ℕ) (x j : ℕ) → 1 ≤ j → j ≤ length s → at (s ++ (x ∷ [])) j ≡ at s j
 at-snoc-low s x j h k = List·getD-append s (x ∷ []) 0 (j - 1) (omega arith)
 
+-- and the one added
 at-snoc-top : {m : ℕ} (s : List ℕ) (x : ℕ) → length s ≡ m → at (s ++ (x ∷ [])) (suc m) ≡ x
 at-snoc-top {m} s x z = getD-at s x [] 0 (suc m - 1) (omega arith)
 
@@ -78,7 +79,7 @@ pub tally-extend : (p : ℕ → Bool) (n : ℕ) (γ : List ℕ) → tally p (ext
 unfolding extend tally
 tally-extend p n γ = omega (arith, tally-append p γ (n ∷ []))
 
--- E(γ) and I(i,γ) are permutations of m + 1
+-- E(γ) is a permutation of m + 1
 pub extend-permutation : {m : ℕ} {γ : List ℕ} → IsPermutation m γ → IsPermutation (suc m) (extend (suc m) γ)
 extend-permutation {m} {γ} p =
     record {
@@ -90,6 +91,7 @@ extend-permutation {m} {γ} p =
           (λ f. omega (arith, tally-extend (eqb v) (suc m) γ, ap one f, p .once v a (omega (arith, eqb-false v (suc m) f))));
     }
 
+-- and so is I(i,γ)
 pub insert-permutation : {m : ℕ} {γ : List ℕ} (i : ℕ) → 1 ≤ i → i ≤ m → IsPermutation m γ → IsPermutation (suc m) (insert (suc m) i γ)
 insert-permutation {m} {γ} i h k p =
     let e = extend-permutation p in
@@ -98,8 +100,9 @@ insert-permutation {m} {γ} i h k p =
       once = λ v a b. tally-insert γ i h k (p .size) (eqb v) ∙ e .once v a b;
     }
 
--- and the converse
+-- the converse of both, for m values
 module _ {m : ℕ} (γ : List ℕ) (z : length γ ≡ m) where
+  -- γ is a permutation of m where E(γ) is one of m + 1
   pub permutation-extend : IsPermutation (suc m) (extend (suc m) γ) → IsPermutation m γ
   permutation-extend p =
       record {
@@ -107,6 +110,7 @@ module _ {m : ℕ} (γ : List ℕ) (z : length γ ≡ m) where
         once = λ v a b. omega (arith, tally-extend (eqb v) (suc m) γ, ap one (ne-eqb v (suc m) (omega arith)), p .once v a (omega arith));
       }
 
+  -- and where I(i,γ) is
   pub permutation-insert : (i : ℕ) → 1 ≤ i → i ≤ m → IsPermutation (suc m) (insert (suc m) i γ) → IsPermutation m γ
   permutation-insert i h k p =
       permutation-extend
@@ -124,6 +128,7 @@ pub data Split (m : ℕ) : List ℕ → Type 0 where
 abbrev remove : ℕ → ℕ → List ℕ → List ℕ
 remove m i s = put (take m s) i (at s (suc m))
 
+-- m + 1 values
 module _ {m : ℕ} (s : List ℕ) (z : length s ≡ suc m) where
   first-last : s ≡ take m s ++ (at s (suc m) ∷ [])
   first-last = rw (at-suc s m) (sym (take-all (suc m) s (omega arith)) ∙ take-suc s m 0 (omega arith))
@@ -174,11 +179,12 @@ module _ {m : ℕ} {s : List ℕ} (p : IsPermutation (suc m) s) where
 pub split : {m : ℕ} {s : List ℕ} → IsPermutation (suc m) s → Split m s
 split {m} p = let o = onto p (suc m) (omega arith) (omega arith) in split-at p (o .0) (o .1) (o .2) (o .3)
 
--- and in one way only
+-- and in one way only: E(γ) tells γ
 pub extend-one : (m : ℕ) (γ δ : List ℕ) → extend m γ ≡ extend m δ → γ ≡ δ
 unfolding extend
 extend-one m γ δ e = append-cancel-right γ δ (m ∷ []) e
 
+-- `remove` undoes I(i,·)
 remove-insert : {m : ℕ} (γ : List ℕ) (i : ℕ) → 1 ≤ i → i ≤ m → length γ ≡ m → remove m i (insert (suc m) i γ) ≡ γ
 unfolding insert
 remove-insert {m} γ i h k z =
@@ -197,6 +203,7 @@ same-position {m} {γ} {δ} i j hi ki hj kj p q e = cases (eqb i j) (λ t. eqb-t
         let there = at-insert-other δ j hj kj (q .size) i hi ki d in
         omega (arith, in-range q i hi ki, ap (λ (s : List ℕ). at s i) e)
 
+-- I(i,γ) tells i and γ
 pub insert-one : {m : ℕ} {γ δ : List ℕ} (i j : ℕ) → 1 ≤ i → i ≤ m → 1 ≤ j → j ≤ m → IsPermutation m γ → IsPermutation m δ
     → insert (suc m) i γ ≡ insert (suc m) j δ → (i ≡ j) × (γ ≡ δ)
 insert-one {m} {γ} {δ} i j hi ki hj kj p q e =
@@ -204,7 +211,7 @@ insert-one {m} {γ} {δ} i j hi ki hj kj p q e =
     let again : remove m i (insert (suc m) i γ) ≡ remove m j (insert (suc m) j δ) = rw (e, same) in
     (same, sym (remove-insert γ i hi ki (p .size)) ∙ again ∙ remove-insert δ j hj kj (q .size))
 
--- and never in both: the last value of E(γ) is m + 1, and that of I(i,δ) is not
+-- no E(γ) is an I(i,δ): the last value of E(γ) is m + 1, and that of I(i,δ) is not
 pub extend-insert : {m : ℕ} {γ δ : List ℕ} (i : ℕ) → 1 ≤ i → i ≤ m → IsPermutation m γ → IsPermutation m δ → extend (suc m) γ ≡ insert (suc m) i δ → ⊥
 extend-insert {m} {γ} {δ} i h k p q e =
     let r = in-range q i h k in

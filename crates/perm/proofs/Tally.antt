@@ -16,17 +16,19 @@ pub refuted : (b : Bool) → (b ≡ true → ⊥) → b ≡ false
 refuted true h = absurd (h refl)
 refuted false h = refl
 
--- the count in two lists joined, in a mapped list, and in a reversed one
+-- the count in two lists joined
 pub tally-append {ℓ} : {A : Type ℓ} (p : A → Bool) (s t : List A) → tally p (s ++ t) ≡ tally p s + tally p t
 unfolding tally
 tally-append p [] t = omega arith
 tally-append p (x ∷ s) t = omega (arith, tally-append p s t)
 
+-- in a mapped list
 pub tally-map {ℓ κ} : {A : Type ℓ} {B : Type κ} (p : B → Bool) (f : A → B) (s : List A) → tally p (map f s) ≡ tally (λ x. p (f x)) s
 unfolding tally
 tally-map p f [] = refl
 tally-map p f (x ∷ s) = ap (λ (k : ℕ). one (p (f x)) + k) (tally-map p f s)
 
+-- and in a reversed one
 pub tally-reverse {ℓ} : {A : Type ℓ} (p : A → Bool) (s : List A) → tally p (reverse s) ≡ tally p s
 unfolding tally
 tally-reverse p [] = refl
@@ -48,17 +50,19 @@ unfolding tally
 tally-not p [] = omega arith
 tally-not p (x ∷ s) = omega (arith, one-not (p x), tally-not p s)
 
--- a range by its last number, its length, and its numbers
+-- a range ends with its greatest number
 pub range-snoc : (a n : ℕ) → range a (suc n) ≡ range a n ++ ((a + n) ∷ [])
 unfolding range
 range-snoc a zero = rw (add-zero a)
 range-snoc a (suc n) = let e : a + suc n ≡ suc a + n = omega arith in rw e (ap (λ (l : List ℕ). a ∷ l) (range-snoc (suc a) n))
 
+-- it has as many numbers as asked for
 pub length-range : (a n : ℕ) → length (range a n) ≡ n
 unfolding range
 length-range a zero = refl
 length-range a (suc n) = ap suc (length-range (suc a) n)
 
+-- and a + i at index i
 pub getD-range : (a n i : ℕ) → i < n → getD (range a n) i 0 ≡ a + i
 unfolding range
 getD-range a zero i h = omega arith

@@ -3,51 +3,36 @@
 use mathlib.Core.Path.{_≡_, refl, sym, ap, _∙_}
 use Prim.Native.Nat.{ℕ, zero, suc, _+_, _-_, _≤_, _<_}
 use native.Mathlib.Omega.{arith}
-use mathlib.Core.Bool.{Bool, true, false, _&&_, true≢false}
+use mathlib.Core.Bool.{Bool, true, false, true≢false}
 use mathlib.Core.List.{List}
-use lib.Dec.{eqb, leb}
+use lib.Dec.{eqb}
 use lib.ListN.{length, getD}
 use lib.Seq.{ext-getD}
 use borrow.Table.Steps.{cases}
-use borrow.Author.Tests.{leb-true, le-leb, eqb-true, eqb-false, eq-eqb, ne-eqb}
+use borrow.Author.Tests.{eqb-true, eqb-false, eq-eqb, ne-eqb}
 use Rattle.stirling.specs.Refusal.{within}
+use Rattle.stirling.proofs.Refusals.{within-holds, within-fails, within-true}
 use Rattle.perm.specs.Lists.{one, tally, positions}
 use Rattle.perm.specs.Permutation.{IsPermutation, at}
-use Rattle.perm.proofs.Tally.{refuted, tally-sum, tally-positions, tally-none, tally-all, all-pass, some-passes, two-pass, at-most-one, range-none-passes, range-tally-none}
-
-and-true : (a b : Bool) → (a && b) ≡ true → (a ≡ true) × (b ≡ true)
-and-true true b e = (refl, e)
-and-true false b e = absurd (true≢false (sym e))
-
--- the test `within`, passed, as two facts
-pub within-true : (low high x : ℕ) → within low high x ≡ true → (low ≤ x) × (x ≤ high)
-within-true low high x e = let b = and-true (leb low x) (leb x high) e in (leb-true low x (b .0), leb-true x high (b .1))
-
--- and the converse
-pub le-within : (low high x : ℕ) → low ≤ x → x ≤ high → within low high x ≡ true
-le-within low high x h k = rw (le-leb low x h, le-leb x high k)
-
--- and the test failed
-pub not-within : (low high x : ℕ) → (low ≤ x → x ≤ high → ⊥) → within low high x ≡ false
-not-within low high x h = refuted (within low high x) (λ t. let b = within-true low high x t in h (b .0) (b .1))
+use Rattle.perm.proofs.Tally.{tally-sum, tally-positions, tally-none, tally-all, all-pass, some-passes, two-pass, at-most-one, range-none-passes, range-tally-none}
 
 -- a number that is not within 1 to n is within 1 to n + 1 just if it is n + 1
 within-top : (n x : ℕ) → within 1 n x ≡ false → one (within 1 (suc n) x) ≡ one (eqb (suc n) x)
 within-top n x out =
     cases
     (eqb (suc n) x)
-    (λ t. let e = eqb-true (suc n) x t in omega (arith, ap one t, ap one (le-within 1 (suc n) x (omega arith) (omega arith))))
-    (λ f. omega (arith, ap one f, ap one (not-within 1 (suc n) x (past (eqb-false (suc n) x f)))))
+    (λ t. let e = eqb-true (suc n) x t in omega (arith, ap one t, ap one (within-holds 1 (suc n) x (omega arith) (omega arith))))
+    (λ f. omega (arith, ap one f, ap one (within-fails 1 (suc n) x (past (eqb-false (suc n) x f)))))
   where
     past : (suc n ≡ x → ⊥) → 1 ≤ x → x ≤ suc n → ⊥
-    past d h k = true≢false (sym (le-within 1 n x h (omega arith)) ∙ out)
+    past d h k = true≢false (sym (within-holds 1 n x h (omega arith)) ∙ out)
 
 -- within 1 to n + 1 is within 1 to n, or n + 1
 within-suc : (n x : ℕ) → one (within 1 (suc n) x) ≡ one (within 1 n x) + one (eqb (suc n) x)
 within-suc n x =
     cases
     (within 1 n x)
-    (λ t. let b = within-true 1 n x t in omega (arith, ap one t, ap one (le-within 1 (suc n) x (b .0) (omega arith)), ap one (ne-eqb (suc n) x (omega arith))))
+    (λ t. let b = within-true 1 n x t in omega (arith, ap one t, ap one (within-holds 1 (suc n) x (b .0) (omega arith)), ap one (ne-eqb (suc n) x (omega arith))))
     (λ f. omega (arith, ap one f, within-top n x f))
 
 -- no entry has value v
@@ -63,7 +48,7 @@ pigeonhole : (s : List ℕ) (n : ℕ) → ((v : ℕ) → 1 ≤ v → v ≤ n →
 unfolding missing
 pigeonhole s zero h =
     omega
-    (arith, tally-none (within 1 0) 0 s (λ i k. not-within 1 0 (getD s i 0) (λ a b. omega arith)), range-tally-none (missing s) 1 0 (λ i a b. absurd (omega arith)))
+    (arith, tally-none (within 1 0) 0 s (λ i k. within-fails 1 0 (getD s i 0) (λ a b. omega arith)), range-tally-none (missing s) 1 0 (λ i a b. absurd (omega arith)))
 pigeonhole s (suc n) h =
     omega (
       arith,
@@ -121,12 +106,13 @@ onto {n} {s} p v h k =
     let r = some-passes (eqb v) 0 s (omega (arith, p .once v h k)) in
     (suc (r .0), omega arith, omega arith, at-suc s (r .0) ∙ sym (eqb-true v (getD s (r .0) 0) (r .2)))
 
+-- a list of n values within 1 to n
 module _ {n : ℕ} (s : List ℕ) (e : length s ≡ n) (r : (i : ℕ) → 1 ≤ i → i ≤ n → (1 ≤ at s i) × (at s i ≤ n)) where
   -- the values at positions, as entries that pass the test
   pub entries-within : (i : ℕ) → i < length s → within 1 n (getD s i 0) ≡ true
   entries-within i k =
       let b = r (suc i) (omega arith) (omega arith) in
-      le-within 1 n (getD s i 0) (omega (arith, at-suc s i)) (omega (arith, at-suc s i))
+      within-holds 1 n (getD s i 0) (omega (arith, at-suc s i)) (omega (arith, at-suc s i))
 
   -- values within 1 to n, and none of them twice, make a permutation
   pub counted : ((v : ℕ) → 1 ≤ v → v ≤ n → tally (eqb v) s ≤ 1) → IsPermutation n s

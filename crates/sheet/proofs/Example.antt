@@ -1,7 +1,6 @@
 -- Document 01's example, by computation. Assumes nothing.
 use mathlib.Core.Path.{_≡_, refl}
-use Prim.Native.Nat.{ℕ}
-use mathlib.Core.List.{List, [], _∷_, _++_}
+use mathlib.Core.List.{[], _∷_, _++_}
 use Rattle.perm.specs.Lists.{range, same}
 use Rattle.perm.specs.Permutation.{insert, extend}
 use Rattle.stirling.specs.Count.{c}

@@ -4,12 +4,12 @@ use Prim.Native.Nat.{ℕ, zero, suc, _+_, _*_, _^_, _≤_, _<_}
 use native.Mathlib.Omega.{arith}
 use native.Mathlib.Nat.{le-trans, lt-of-le-of-lt, lt-of-not-le, mul-le-mul, mul-le-mul-left, mul-zero, mul-pos}
 use mathlib.Core.Path.{_≡_, refl}
-use mathlib.Core.Bool.{Bool, true, false, not}
+use mathlib.Core.Bool.{not}
 use lib.Dec.{leb, lit<}
-use borrow.Author.Tests.{leb-true, leb-false, le-leb, lt-leb, not-false}
-use Rattle.stirling.specs.Refusal.{refuse, _then_, within}
+use borrow.Author.Tests.{leb-false, le-leb, lt-leb, not-false}
+use Rattle.stirling.specs.Refusal.{refuse, within}
 use Rattle.stirling.specs.Count.{c, checkSize, checkCycles, checkPlace, lookupOf}
-use Rattle.stirling.proofs.Refusals.{refuse-applies, refuse-passes, refuse-passed, then-passes, then-passed, within-holds, within-fails, within-true}
+use Rattle.stirling.proofs.Refusals.{refuse-passed, then-passed, within-holds, within-fails, within-true}
 
 -- c(n,k) = (n−1)×c(n−1,k) + c(n−1,k−1)
 pub recurrence : (n k : ℕ) → c (suc n) (suc k) ≡ n * c n (suc k) + c n k
