@@ -1,4 +1,4 @@
--- Laws of the counts c(n,k), and what the checks 1, 2 and 3 say of n, k and a place when they pass.
+-- Laws of the counts c(n,k), from the recurrence; and of the checks 1, 2 and 3: what n, k and the place are where they pass, and where they refuse.
 -- Assumes nothing.
 use Prim.Native.Nat.{ℕ, zero, suc, _+_, _*_, _^_, _≤_, _<_}
 use native.Mathlib.Omega.{arith}
@@ -33,7 +33,7 @@ unfolding c
 no-cycle zero h = absurd (omega arith)
 no-cycle (suc n) h = refl
 
--- nothing has one permutation, with no cycle
+-- the one permutation of 0 has no cycle
 nothing : c 0 0 ≡ 1
 unfolding c
 nothing = refl
@@ -56,6 +56,7 @@ pub inside : (n k r : ℕ) → 1 ≤ n → r < c n k → (1 ≤ k) × (k ≤ n)
 inside n zero r l h = absurd (omega (arith, no-cycle n l))
 inside n (suc k) r l h = (omega arith, lt-of-not-le (λ o. omega (arith, above n (suc k) (omega arith))))
 
+-- how many permutations of n there are
 unfoldable factorial : ℕ → ℕ
 factorial zero = 1
 factorial (suc n) = suc n * factorial n

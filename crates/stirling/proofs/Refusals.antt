@@ -31,7 +31,7 @@ pub then-refuses : (a b : ℕ) → (a ≡ 0 → ⊥) → a then b ≡ a
 then-refuses zero b h = absurd (h refl)
 then-refuses (suc r) b h = refl
 
--- what a call returns that stops at a refusal of the checks before
+-- a call that stops where the checks before refuse returns what the chain gives
 pub then-stops : (a b r : ℕ) → r ≡ a → (r ≡ 0 → ⊥) → r ≡ a then b
 then-stops a b r e h = rw e (sym (then-refuses a b (λ z. h (e ∙ z))))
 

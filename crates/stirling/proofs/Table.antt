@@ -9,6 +9,7 @@ use lib.Dec.{T, eqb, eqb→eq}
 use lib.ListN.{getD}
 use Rattle.stirling.specs.Count.{c}
 
+-- the entry for n and k
 abbrev pub entry : List ℕ → ℕ → ℕ → ℕ
 entry xs n k = getD xs (n * 21 + k) 0
 
@@ -24,9 +25,9 @@ abbrev pub all : (ℕ → Bool) → ℕ → Bool
 all f zero = true
 all f (suc m) = f 0 && all (λ i. f (suc i)) m
 
--- the recurrence at every entry of the table
-abbrev pub recurrence : List ℕ → Bool
-recurrence xs = all (λ n. all (right xs n) 21) 21
+-- the test of the whole table: every entry is right
+abbrev pub everyRight : List ℕ → Bool
+everyRight xs = all (λ n. all (right xs n) 21) 21
 
 and-left : (a b : Bool) → T (a && b) → T a
 and-left true b t = tt
@@ -36,16 +37,18 @@ and-right : (a b : Bool) → T (a && b) → T b
 and-right true b t = t
 and-right false b t = absurd t
 
+-- a test of all numbers below a bound, at one of them
 all-at : (f : ℕ → Bool) (m : ℕ) → T (all f m) → (i : ℕ) → i < m → T (f i)
 all-at f zero t i h = absurd (omega arith)
 all-at f (suc m) t zero h = and-left (f 0) (all (λ i. f (suc i)) m) t
 all-at f (suc m) t (suc i) h = all-at (λ i. f (suc i)) m (and-right (f 0) (all (λ i. f (suc i)) m) t) i (omega arith)
 
-right-at : (xs : List ℕ) → T (recurrence xs) → (n k : ℕ) → n ≤ 20 → k ≤ 20 → T (right xs n k)
+-- where the test passes, each entry is right
+right-at : (xs : List ℕ) → T (everyRight xs) → (n k : ℕ) → n ≤ 20 → k ≤ 20 → T (right xs n k)
 right-at xs t n k hn hk = all-at (right xs n) 21 (all-at (λ n. all (right xs n) 21) 21 t n (omega arith)) k (omega arith)
 
 -- a table that passes the test holds the counts
-pub counted : (xs : List ℕ) → T (recurrence xs) → (n k : ℕ) → n ≤ 20 → k ≤ 20 → entry xs n k ≡ c n k
+pub counted : (xs : List ℕ) → T (everyRight xs) → (n k : ℕ) → n ≤ 20 → k ≤ 20 → entry xs n k ≡ c n k
 unfolding c
 counted xs t zero zero hn hk = eqb→eq _ _ (right-at xs t 0 0 hn hk)
 counted xs t zero (suc k) hn hk = eqb→eq _ _ (right-at xs t 0 (suc k) hn hk)

@@ -31,13 +31,14 @@ mul-result-2 c = search needs
 array-read-result : tie.Need-array-read-result
 array-read-result c = search needs
 
+-- `passed` is the test's proof: `rw` takes it for `T (everyRight table)`, which antt computes, the table being the code's own
 returns-3 : tie.Need-returns-3
 returns-3 c =
     let n = c .before .before .args .n in
     let k = c .before .before .args .k in
-    let passed : Unit {0} = tt in
     let hn : n ≤ 20 = omega arith in
     let hk : k ≤ 20 = omega arith in
+    let passed : Unit {0} = tt in
     rw (counted, looked-up n k hn)
 
 pub lookup-spec : {M : Type 1} → statement M
