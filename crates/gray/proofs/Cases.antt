@@ -1,0 +1,84 @@
+-- The cases of document 01, as facts about the definitions, by computation. Assumes nothing.
+use mathlib.Core.Path.{_≡_, refl}
+use Prim.Native.Nat.{ℕ}
+use mathlib.Core.List.{List, [], _∷_}
+use lib.ListN.{length}
+use Rattle.stirling.specs.Count.{c, checkSize, checkPlace}
+use Rattle.perm.specs.Lists.{tally, range}
+use Rattle.perm.specs.Permutation.{extend, insert, exchange, rotate}
+use Rattle.perm.specs.Array.{IsArrayOf, partial, product}
+use Rattle.perm.specs.Checks.{checkEntries}
+use Rattle.gray.specs.Order.{S, relation, relationA, relationB, relationC, relationD, relationE, letter, joined, rows, reading, odd, rising, falling}
+use Rattle.gray.specs.Listing.{rowAt}
+use Rattle.perm.proofs.Checked.{checked-array}
+
+-- document 01's table "What is proved of the cases", line by line: a fact's name has n, k and the place
+pub record Table : Type 0 where
+  -- 1,1: place 0 is 1
+  pub row-1-1-0 : rowAt (S 1 1) 0 ≡ 1 ∷ []
+  -- 4,2: count 11
+  pub count-4-2 : c 4 2 ≡ 11
+  -- 4,2: place 0: 4213, array 1211
+  pub row-4-2-0 : rowAt (S 4 2) 0 ≡ 4 ∷ 2 ∷ 1 ∷ 3 ∷ []
+  pub array-4-2-0 : IsArrayOf (rowAt (S 4 2) 0) (1 ∷ 2 ∷ 1 ∷ 1 ∷ [])
+  -- 4,2: 0 to 1: 4321, roads 2,4,3
+  pub row-4-2-1 : rowAt (S 4 2) 1 ≡ 4 ∷ 3 ∷ 2 ∷ 1 ∷ []
+  pub step-4-2-1 : rowAt (S 4 2) 1 ≡ rotate (rowAt (S 4 2) 0) 2 4 3
+  -- 4,2: place 10: 3412, array 1212
+  pub row-4-2-10 : rowAt (S 4 2) 10 ≡ 3 ∷ 4 ∷ 1 ∷ 2 ∷ []
+  pub array-4-2-10 : IsArrayOf (rowAt (S 4 2) 10) (1 ∷ 2 ∷ 1 ∷ 2 ∷ [])
+  -- 4,1: places 2, 3, 4: 2413, 3421, 2341
+  pub row-4-1-2 : rowAt (S 4 1) 2 ≡ 2 ∷ 4 ∷ 1 ∷ 3 ∷ []
+  pub row-4-1-3 : rowAt (S 4 1) 3 ≡ 3 ∷ 4 ∷ 2 ∷ 1 ∷ []
+  pub row-4-1-4 : rowAt (S 4 1) 4 ≡ 2 ∷ 3 ∷ 4 ∷ 1 ∷ []
+  -- 5,2: count 50
+  pub count-5-2 : c 5 2 ≡ 50
+  -- 5,2: place 0: 52134; place 49: 45132
+  pub row-5-2-0 : rowAt (S 5 2) 0 ≡ 5 ∷ 2 ∷ 1 ∷ 3 ∷ 4 ∷ []
+  pub row-5-2-49 : rowAt (S 5 2) 49 ≡ 4 ∷ 5 ∷ 1 ∷ 3 ∷ 2 ∷ []
+  -- 5,2: 38: 31425, array 11135
+  pub row-5-2-38 : rowAt (S 5 2) 38 ≡ 3 ∷ 1 ∷ 4 ∷ 2 ∷ 5 ∷ []
+  pub array-5-2-38 : IsArrayOf (rowAt (S 5 2) 38) (1 ∷ 1 ∷ 1 ∷ 3 ∷ 5 ∷ [])
+  -- 5,2: 39: 35124, array 12122, roads 2,5,3
+  pub row-5-2-39 : rowAt (S 5 2) 39 ≡ 3 ∷ 5 ∷ 1 ∷ 2 ∷ 4 ∷ []
+  pub array-5-2-39 : IsArrayOf (rowAt (S 5 2) 39) (1 ∷ 2 ∷ 1 ∷ 2 ∷ 2 ∷ [])
+  pub step-5-2-39 : rowAt (S 5 2) 39 ≡ rotate (rowAt (S 5 2) 38) 2 5 3
+  -- edges: n = 20 serves, 21 is refused 1
+  pub size-20 : checkSize 20 ≡ 0
+  pub size-21 : checkSize 21 ≡ 1
+  -- place 49 of 5,2 serves, 50 is refused 3
+  pub place-5-2-49 : checkPlace 5 2 49 ≡ 0
+  pub place-5-2-50 : checkPlace 5 2 50 ≡ 3
+
+-- p is the array of s: its entries pass check 6, and its product is s
+array-of : (s p : List ℕ) → length p ≡ length s → checkEntries p ≡ 0 → product p ≡ s → IsArrayOf s p
+array-of s p l e q = record { array = rw (← l) (checked-array p e); equal = q }
+
+pub table : Table
+unfolding S relation relationA relationB relationC relationD relationE letter joined rows reading odd rising falling range tally insert extend exchange rotate partial product c
+table =
+    record {
+      row-1-1-0 = refl;
+      count-4-2 = refl;
+      row-4-2-0 = refl;
+      array-4-2-0 = array-of _ _ refl refl refl;
+      row-4-2-1 = refl;
+      step-4-2-1 = refl;
+      row-4-2-10 = refl;
+      array-4-2-10 = array-of _ _ refl refl refl;
+      row-4-1-2 = refl;
+      row-4-1-3 = refl;
+      row-4-1-4 = refl;
+      count-5-2 = refl;
+      row-5-2-0 = refl;
+      row-5-2-49 = refl;
+      row-5-2-38 = refl;
+      array-5-2-38 = array-of _ _ refl refl refl;
+      row-5-2-39 = refl;
+      array-5-2-39 = array-of _ _ refl refl refl;
+      step-5-2-39 = refl;
+      size-20 = refl;
+      size-21 = refl;
+      place-5-2-49 = refl;
+      place-5-2-50 = refl;
+    }

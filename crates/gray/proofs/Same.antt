@@ -1,0 +1,47 @@
+-- A Boolean test of equality of rows, to count one row in a list. Assumes nothing.
+use mathlib.Core.Path.{_≡_, refl, sym}
+use mathlib.Core.Bool.{Bool, true, false, _&&_, false≢true}
+use mathlib.Core.List.{[], _∷_}
+use lib.Dec.{eqb}
+use borrow.Author.Tests.{eqb-true, eq-eqb}
+use Rattle.perm.specs.Lists.{same}
+use Rattle.gray.specs.Order.{Row}
+use Rattle.perm.proofs.Tally.{refuted}
+
+-- it passes on equal rows
+pub same-equal : (s t : Row) → s ≡ t → same s t ≡ true
+unfolding same
+same-equal s t e = rw e (passes t)
+  where
+    passes : (u : Row) → same u u ≡ true
+    passes [] = refl
+    passes (x ∷ u) = rw (eq-eqb x x refl, passes u)
+
+and-true : (a b : Bool) → a && b ≡ true → (a ≡ true) × (b ≡ true)
+and-true true b e = (refl, e)
+and-true false b e = absurd (false≢true e)
+
+-- and only on these
+pub same-true : (s t : Row) → same s t ≡ true → s ≡ t
+unfolding same
+same-true [] [] e = refl
+same-true [] (y ∷ t) e = absurd (false≢true e)
+same-true (x ∷ s) [] e = absurd (false≢true e)
+same-true (x ∷ s) (y ∷ t) e =
+    let (h, l) = and-true (eqb x y) (same s t) e in
+    rw (eqb-true x y h, same-true s t l)
+
+-- it fails on different rows
+pub same-false : (s t : Row) → (s ≡ t → ⊥) → same s t ≡ false
+same-false s t h = refuted (same s t) (λ e. h (same-true s t e))
+
+iff-equal : (a b : Bool) → (a ≡ true → b ≡ true) → (b ≡ true → a ≡ true) → a ≡ b
+iff-equal true true f g = refl
+iff-equal true false f g = sym (f refl)
+iff-equal false true f g = g refl
+iff-equal false false f g = refl
+
+-- two tests agree where one equality holds just if the other does
+pub same-iff : (s t u v : Row) → (s ≡ t → u ≡ v) → (u ≡ v → s ≡ t) → same s t ≡ same u v
+same-iff s t u v to from =
+    iff-equal (same s t) (same u v) (λ e. same-equal u v (to (same-true s t e))) (λ e. same-equal s t (from (same-true u v e)))
