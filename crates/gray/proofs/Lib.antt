@@ -1,5 +1,7 @@
 pub mod Which
 pub mod Joined
+pub mod BlockAt
+pub mod Blocks
 pub mod Sum
 pub mod Counting
 pub mod Same

@@ -1,4 +1,11 @@
 // The list S(n,k) of all permutations of n with k cycles, as relations between blocks.
+ghost use mathlib.Core.Path.{_≡_};
+ghost use mathlib.Core.Bool.{cond};
+ghost use Prim.Native.Nat.{_+_, _≤_, _<_};
+ghost use lib.Dec.{eqb};
+ghost use lib.ListN.{getD};
+ghost use Rattle.gray.specs.Order.{letter, blocksC3, blocksC, blocksD, blocksE};
+ghost use Rattle.gray.specs.Blocks.{blocksOfA, blocks};
 
 // A block of a relation. `Insert { position: i, reading: e }` is document 01's I(i,[L]e), and `Extend { reading: e }` its E([M]e):
 // L = S(n-1,k) and M = S(n-1,k-1), read forward for even e and backward for odd e.
@@ -15,4 +22,200 @@ pub enum Letter {
     C,
     D,
     E,
+}
+
+// The relation that gives S(n,k).
+pub fn letter_of(n: u64, k: u64) -> Letter
+    ensures { λ r. ⌜ r ≡ letter n k ⌝ }
+{
+    if k == 0 {
+        return Letter::Nothing;
+    }
+    if n < k {
+        return Letter::Nothing;
+    }
+    if k == 1 {
+        return Letter::A;
+    }
+    if k == n {
+        return Letter::B;
+    }
+    if k + 1 == n {
+        return Letter::C;
+    }
+    if k + 2 == n {
+        return Letter::D;
+    }
+    Letter::E
+}
+
+// Block j of relation (a) for n up to 4, from 0; past the last one, as for all relations, `Extend { reading: 0 }`.
+fn block_a4(n: u64, j: u64) -> Block
+    requires { ⌜ n < 5 ⌝ }
+    ensures { λ r. ⌜ r ≡ getD (blocksOfA n) j (Block.Extend 0) ⌝ }
+{
+    if n < 2 {
+        return Block::Extend { reading: 0 };
+    }
+    if n - 1 <= j {
+        return Block::Extend { reading: 0 };
+    }
+    if j == 0 {
+        return Block::Insert {
+            position: 1,
+            reading: 0,
+        };
+    }
+    if n == 3 {
+        return Block::Insert {
+            position: 2,
+            reading: 0,
+        };
+    }
+    Block::Insert {
+        position: j + 1,
+        reading: 1,
+    }
+}
+
+// Block j of relation (a).
+fn block_a(n: u64, j: u64) -> Block
+    ensures { λ r. ⌜ r ≡ getD (blocksOfA n) j (Block.Extend 0) ⌝ }
+{
+    if n < 5 {
+        return block_a4(n, j);
+    }
+    if j == 0 {
+        return Block::Insert {
+            position: 1,
+            reading: 0,
+        };
+    }
+    if j < n - 3 {
+        return Block::Insert {
+            position: n - j,
+            reading: n - j + 1,
+        };
+    }
+    if j == n - 3 {
+        return Block::Insert {
+            position: 2,
+            reading: 0,
+        };
+    }
+    if j == n - 2 {
+        return Block::Insert {
+            position: 3,
+            reading: 1,
+        };
+    }
+    Block::Extend { reading: 0 }
+}
+
+// Block j of relation (c).
+fn block_c(n: u64, j: u64) -> Block
+    requires { ⌜ 3 ≤ n ⌝ }
+    ensures { λ r. ⌜ r ≡ getD (cond (eqb n 3) blocksC3 (blocksC n)) j (Block.Extend 0) ⌝ }
+{
+    if j == 0 {
+        return Block::Insert {
+            position: 1,
+            reading: 0,
+        };
+    }
+    if j == 1 {
+        return Block::Insert {
+            position: n - 1,
+            reading: 0,
+        };
+    }
+    if n == 3 {
+        return Block::Extend { reading: 0 };
+    }
+    if j < n - 2 {
+        return Block::Insert {
+            position: n - 1 - j,
+            reading: 0,
+        };
+    }
+    if j == n - 2 {
+        return Block::Insert {
+            position: n - 2,
+            reading: 0,
+        };
+    }
+    if j == n - 1 {
+        return Block::Extend { reading: 1 };
+    }
+    Block::Extend { reading: 0 }
+}
+
+// Block j of relation (d).
+fn block_d(n: u64, j: u64) -> Block
+    requires { ⌜ 4 ≤ n ⌝ }
+    ensures { λ r. ⌜ r ≡ getD (blocksD n) j (Block.Extend 0) ⌝ }
+{
+    if j == 0 {
+        return Block::Insert {
+            position: 1,
+            reading: 0,
+        };
+    }
+    if j < n - 2 {
+        return Block::Insert {
+            position: j + 2,
+            reading: j + 2,
+        };
+    }
+    if j == n - 1 {
+        return Block::Insert {
+            position: 2,
+            reading: 1,
+        };
+    }
+    Block::Extend { reading: 0 }
+}
+
+// Block j of relation (e).
+fn block_e(n: u64, k: u64, j: u64) -> Block
+    requires { ⌜ (2 ≤ k) × (k + 3 ≤ n) ⌝ }
+    ensures { λ r. ⌜ r ≡ getD (blocksE n k) j (Block.Extend 0) ⌝ }
+{
+    if j == 0 {
+        return Block::Insert {
+            position: 1,
+            reading: 0,
+        };
+    }
+    if j < n - k {
+        return Block::Insert {
+            position: n - j,
+            reading: n - j,
+        };
+    }
+    if j == n - k {
+        return Block::Extend { reading: k };
+    }
+    if j < n {
+        return Block::Insert {
+            position: n - j + 1,
+            reading: n - j,
+        };
+    }
+    Block::Extend { reading: 0 }
+}
+
+// Block j of S(n,k), from 0; `Extend { reading: 0 }` past the last one.
+pub fn block_at(n: u64, k: u64, j: u64) -> Block
+    ensures { λ r. ⌜ r ≡ getD (blocks n k) j (Block.Extend 0) ⌝ }
+{
+    let letter = letter_of(n, k);
+    match letter {
+        Letter::Nothing => Block::Extend { reading: 0 },
+        Letter::A => block_a(n, j),
+        Letter::B => Block::Extend { reading: 0 },
+        Letter::C => block_c(n, j),
+        Letter::D => block_d(n, j),
+        Letter::E => block_e(n, k, j),
+    }
 }
