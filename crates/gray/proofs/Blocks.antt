@@ -5,11 +5,11 @@ use native.Mathlib.Omega.{arith}
 use mathlib.Core.Bool.{Bool, true, false, cond}
 use mathlib.Core.List.{List, [], _∷_, _++_}
 use lib.Dec.{eqb}
-use borrow.Author.Tests.{eqb-true, eqb-false}
+use borrow.Author.Tests.{eqb-false}
 use lib.ListN.{length, length-append}
 use Rattle.gray.specs.declared.Block.{Block}
 use Rattle.gray.specs.declared.Block.the-variants.{Insert as I, Extend as E}
-use Rattle.gray.specs.Order.{letter, rising, falling, blocksC3, blocksC, blocksD, blocksE}
+use Rattle.gray.specs.Order.{rising, falling, blocksC3, blocksC, blocksD, blocksE}
 use Rattle.gray.specs.Blocks.{blocksOfA, blocksOf, blocks}
 use Rattle.gray.proofs.Which.{Which, is-none, is-a, is-b, is-c, is-d, is-e, which}
 use Rattle.gray.proofs.BlockAt.{block, length-falling, length-rising}

@@ -1,11 +1,10 @@
 -- `gray::block_a` meets its contract: for n ≥ 5 the run of (a) stands at the indices 1 to n−4, and two blocks after it. Assumes nothing.
 use borrow.Author.Needs.{needs}
-use mathlib.Core.Path.{_≡_, refl, sym, _∙_}
-use Prim.Native.Nat.{ℕ, zero, suc, _+_, _-_, _≤_, _<_}
+use mathlib.Core.Path.{_≡_, sym}
+use Prim.Native.Nat.{ℕ, suc, _+_, _-_, _≤_, _<_}
 use native.Mathlib.Omega.{arith}
 use mathlib.Core.List.{[], _∷_}
 use Rattle.gray.specs.declared.Block.the-variants.{Insert as I, Extend as E}
-use Rattle.gray.specs.Order.{blocksA}
 use Rattle.gray.specs.Blocks.{blocksOfA}
 use Rattle.gray.proofs.BlockAt.{block, falling-at, falling-past, first-a, long-a}
 use Rattle.gray.proofs.block_a.Statement.{statement}

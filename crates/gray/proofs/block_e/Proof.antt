@@ -3,8 +3,8 @@ use borrow.Author.Needs.{needs}
 use mathlib.Core.Path.{_≡_, sym, _∙_}
 use Prim.Native.Nat.{ℕ, suc, _+_, _-_, _≤_, _<_}
 use native.Mathlib.Omega.{arith}
-use mathlib.Core.List.{List, [], _∷_}
-use lib.ListN.{length, List·getD-eq-default}
+use mathlib.Core.List.{List, _∷_}
+use lib.ListN.{List·getD-eq-default}
 use Rattle.gray.specs.declared.Block.{Block}
 use Rattle.gray.specs.declared.Block.the-variants.{Insert as I, Extend as E}
 use Rattle.gray.specs.Order.{falling, blocksE}
