@@ -6,4 +6,11 @@ pub mod Sum
 pub mod Counting
 pub mod Same
 pub mod Once
+pub mod Exchange
+pub mod Step
+pub mod Run
+pub mod Relations
+pub mod Ends
+pub mod Induction
+pub mod Neighbours
 pub mod Cases
