@@ -49,7 +49,7 @@ pub fn letter_of(n: u64, k: u64) -> Letter
     Letter::E
 }
 
-// Block j of relation (a) for n up to 4, from 0; past the last one, as for all relations, `Extend { reading: 0 }`.
+// Block j of relation (a) for n up to 4, counted from 0; past the last one, as for all relations, `Extend { reading: 0 }`.
 fn block_a4(n: u64, j: u64) -> Block
     requires { ⌜ n < 5 ⌝ }
     ensures { λ r. ⌜ r ≡ getD (blocksOfA n) j (Block.Extend 0) ⌝ }
@@ -78,7 +78,7 @@ fn block_a4(n: u64, j: u64) -> Block
     }
 }
 
-// Block j of relation (a).
+// Block j of relation (a): for n >= 5, I(1,L); I(i,[L](i+1)) for i = n-1 down to 4; I(2,L); I(3,L reversed).
 fn block_a(n: u64, j: u64) -> Block
     ensures { λ r. ⌜ r ≡ getD (blocksOfA n) j (Block.Extend 0) ⌝ }
 {
@@ -112,7 +112,7 @@ fn block_a(n: u64, j: u64) -> Block
     Block::Extend { reading: 0 }
 }
 
-// Block j of relation (c).
+// Block j of relation (c): for n >= 4, I(1,L); I(n-1,L); I(i,L) for i = n-3 down to 2; I(n-2,L); E(M reversed).
 fn block_c(n: u64, j: u64) -> Block
     requires { ⌜ 3 ≤ n ⌝ }
     ensures { λ r. ⌜ r ≡ getD (cond (eqb n 3) blocksC3 (blocksC n)) j (Block.Extend 0) ⌝ }
@@ -150,7 +150,7 @@ fn block_c(n: u64, j: u64) -> Block
     Block::Extend { reading: 0 }
 }
 
-// Block j of relation (d).
+// Block j of relation (d): I(1,L); I(i,[L]i) for i = 3 up to n-1; E(M); I(2,L reversed).
 fn block_d(n: u64, j: u64) -> Block
     requires { ⌜ 4 ≤ n ⌝ }
     ensures { λ r. ⌜ r ≡ getD (blocksD n) j (Block.Extend 0) ⌝ }
@@ -176,7 +176,7 @@ fn block_d(n: u64, j: u64) -> Block
     Block::Extend { reading: 0 }
 }
 
-// Block j of relation (e).
+// Block j of relation (e): I(1,L); I(i,[L]i) for i = n-1 down to k+1; E([M]k); I(i,[L](i-1)) for i = k down to 2.
 fn block_e(n: u64, k: u64, j: u64) -> Block
     requires { ⌜ (2 ≤ k) × (k + 3 ≤ n) ⌝ }
     ensures { λ r. ⌜ r ≡ getD (blocksE n k) j (Block.Extend 0) ⌝ }
@@ -205,7 +205,7 @@ fn block_e(n: u64, k: u64, j: u64) -> Block
     Block::Extend { reading: 0 }
 }
 
-// Block j of S(n,k), from 0; `Extend { reading: 0 }` past the last one.
+// Block j of S(n,k), counted from 0; `Extend { reading: 0 }` past the last one.
 pub fn block_at(n: u64, k: u64, j: u64) -> Block
     ensures { λ r. ⌜ r ≡ getD (blocks n k) j (Block.Extend 0) ⌝ }
 {

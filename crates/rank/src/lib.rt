@@ -1,4 +1,23 @@
 // From a place of S(n,k) to its permutation and back, and rows into a lent buffer.
+use gray::Block;
+ghost use mathlib.Core.Path.{_≡_};
+ghost use Prim.Native.Nat.{_+_, _-_, _*_, _≤_, _<_};
+ghost use mathlib.Core.List.{_++_, reverse};
+ghost use lib.ListN.{length, take, drop};
+ghost use Rattle.stirling.specs.Count.{c};
+ghost use Rattle.gray.specs.Order.{S};
+ghost use Rattle.gray.specs.Listing.{rowAt};
+ghost use Rattle.rank.specs.Place.{Unranked, checkRowCount, rowsFrom, RowsWritten};
+ghost use Rattle.rank.specs.Search.{grown, sourceOf, ComesFrom, Readable};
+
+// The refusal of check 4.
+pub const REFUSED_ROWS: u8 = 4;
+
+// The refusal of check 5.
+const REFUSED_LENT: u8 = 5;
+
+// The most rows of one call.
+const MOST_ROWS: u64 = 1000;
 
 // Where a permutation stands: its number of cycles k, and its place in S(n,k). Zeros on a refusal.
 #[repr(C)]
@@ -6,4 +25,180 @@ pub struct Standing {
     pub refusal: u8,
     pub k: u64,
     pub place: u64,
+}
+
+// Where a row of S(n,k) comes from: the row at a place of S(n-1,cycles), read forward or backward. With n added at its end and exchanged with
+// the value at `position` it is the row of S(n,k).
+struct Source {
+    position: u64,
+    cycles: u64,
+    backward: bool,
+    place: u64,
+}
+
+// What a block of S(n,k) makes its row at a place from.
+fn source_of(n: u64, k: u64, block: Block, place: u64) -> Source
+    requires { ⌜ 1 ≤ k ⌝ }
+    ensures { λ r. ⌜ r ≡ sourceOf n k block place ⌝ }
+{
+    match block {
+        Block::Insert { position, reading } => Source {
+            position,
+            cycles: k,
+            backward: reading % 2 == 1,
+            place,
+        },
+        Block::Extend { reading } => Source {
+            position: n,
+            cycles: k - 1,
+            backward: reading % 2 == 1,
+            place,
+        },
+    }
+}
+
+// What the row of S(n,k) at a place comes from: the blocks are passed, one after the other, up to the one that holds the place.
+fn source_at(n: u64, k: u64, place: u64) -> Source
+    requires { ⌜ (1 ≤ n) × (n ≤ 20) × (place < c n k) ⌝ }
+    ensures { λ r. ⌜ ComesFrom n k place r ⌝ }
+{
+    let mut rest = place;
+    let mut j = 0;
+    loop {
+        let source = source_of(n, k, gray::block_at(n, k, j), rest);
+        let size = stirling::lookup(n - 1, source.cycles);
+        if rest < size {
+            return source;
+        }
+        rest -= size;
+        j += 1;
+    }
+}
+
+// The permutation in all but the last byte of `out` becomes one of n: n is added at its end, and exchanged with the value at position i.
+fn grow(n: u64, i: u64, out: &mut [u8])
+    requires { ⌜ (n ≤ 20) × (1 ≤ i) × (i ≤ n) × (length (now out) ≡ n) ⌝ }
+    ensures { λ _. ⌜ now (out .exit) ≡ grown n i (take (n - 1) (now (out .entry))) ⌝ }
+{
+    let last = (n - 1) as usize;
+    let at = (i - 1) as usize;
+    out[last] = out[at];
+    out[at] = n as u8;
+}
+
+// The row of S(n,k) at a place, read forward.
+fn unrank_forward(n: u64, k: u64, place: u64, out: &mut [u8])
+    requires { ⌜ Readable n k place (length (now out)) ⌝ }
+    ensures { λ _. ⌜ now (out .exit) ≡ rowAt (S n k) place ⌝ }
+{
+    if n == 0 {
+        return;
+    }
+    let source = source_at(n, k, place);
+    let m = n - 1;
+    let last = m as usize;
+    if source.backward {
+        unrank_backward(m, source.cycles, source.place, &mut out[..last]);
+    } else {
+        unrank_forward(m, source.cycles, source.place, &mut out[..last]);
+    }
+    grow(n, source.position, out);
+}
+
+// The row of S(n,k) at a place, read backward: place 0 is the last row.
+fn unrank_backward(n: u64, k: u64, place: u64, out: &mut [u8])
+    requires { ⌜ Readable n k place (length (now out)) ⌝ }
+    ensures { λ _. ⌜ now (out .exit) ≡ rowAt (reverse (S n k)) place ⌝ }
+{
+    if n == 0 {
+        return;
+    }
+    let source = source_at(n, k, stirling::lookup(n, k) - 1 - place);
+    let m = n - 1;
+    let last = m as usize;
+    if source.backward {
+        unrank_backward(m, source.cycles, source.place, &mut out[..last]);
+    } else {
+        unrank_forward(m, source.cycles, source.place, &mut out[..last]);
+    }
+    grow(n, source.position, out);
+}
+
+// The permutation at a place of S(n,k), written to `out`. Refusals in document 01's order; a refused call writes nothing.
+pub fn unrank(n: u64, k: u64, place: u64, out: &mut [u8]) -> u8
+    ensures { λ r. ⌜ Unranked n k place (now (out .entry)) r (now (out .exit)) ⌝ }
+{
+    let refusal = stirling::check_place(n, k, place);
+    if refusal != 0 {
+        return refusal;
+    }
+    if out.len() as u64 != n {
+        return REFUSED_LENT;
+    }
+    unrank_forward(n, k, place, out);
+    0
+}
+
+// Checks 1, 2 and 3, then check 4: m is 1 to 1,000, and S(n,k) has m rows from the place on.
+pub fn check_row_count(n: u64, k: u64, place: u64, m: u64) -> u8
+    ensures { λ r. ⌜ r ≡ checkRowCount n k place m ⌝ }
+{
+    let place_refusal = stirling::check_place(n, k, place);
+    if place_refusal != 0 {
+        return place_refusal;
+    }
+    if m < 1 || m > MOST_ROWS {
+        return REFUSED_ROWS;
+    }
+    if m > stirling::lookup(n, k) - place {
+        return REFUSED_ROWS;
+    }
+    0
+}
+
+// Check 5 of the rows: from byte o on, a buffer of `size` bytes has room for `bytes` of them. No sum is made that could wrap.
+fn check_room(size: u64, o: u64, bytes: u64) -> u8
+    ensures passes { λ r. ⌜ (r ≡ 0 → o + bytes ≤ size) ⌝ }
+    ensures refuses { λ r. ⌜ ((r ≡ 0 → ⊥) → (r ≡ 5) × (size < o + bytes)) ⌝ }
+{
+    if o > size {
+        return REFUSED_LENT;
+    }
+    if size - o < bytes {
+        return REFUSED_LENT;
+    }
+    0
+}
+
+// The m rows of S(n,k) from a place on, one after another, at the front of `part`; the bytes after them stay.
+fn write_rows(n: u64, k: u64, place: u64, m: u64, part: &mut [u8])
+    requires { ⌜ checkRowCount n k place m ≡ 0 ⌝ }
+    requires { ⌜ m * n ≤ length (now part) ⌝ }
+    ensures { λ _. ⌜ now (part .exit) ≡ rowsFrom n k place m ++ drop (m * n) (now (part .entry)) ⌝ }
+{
+    let mut row = 0;
+    while row < m {
+        let at = (row * n) as usize;
+        let end = at + n as usize;
+        unrank(n, k, place + row, &mut part[at..end]);
+        row += 1;
+    }
+}
+
+// The m rows of S(n,k) from a place on, one after another, written to `buf` from byte o on; the bytes before and after them stay.
+// Refusals in document 01's order; a refused call writes nothing.
+pub fn rows(n: u64, k: u64, place: u64, m: u64, o: u64, buf: &mut [u8]) -> u8
+    ensures { λ r. ⌜ RowsWritten n k place m o (now (buf .entry)) r (now (buf .exit)) ⌝ }
+{
+    let count_refusal = check_row_count(n, k, place, m);
+    if count_refusal != 0 {
+        return count_refusal;
+    }
+    let room_refusal = check_room(buf.len() as u64, o, m * n);
+    if room_refusal != 0 {
+        return room_refusal;
+    }
+    let from = o as usize;
+    write_rows(n, k, place, m, &mut buf[from..]);
+    0
 }

@@ -1,0 +1,30 @@
+-- The row at a place of a list read backward, and the size of a row of S(n,k) in either reading. Assumes nothing.
+use mathlib.Core.Path.{_≡_, sym, _∙_}
+use Prim.Native.Nat.{ℕ, zero, suc, _+_, _-_, _<_}
+use native.Mathlib.Omega.{arith}
+use mathlib.Core.Bool.{Bool, true, false, cond}
+use mathlib.Core.List.{List, [], _∷_, reverse, reverse-cons}
+use lib.ListN.{length, getD, length-reverse, List·getD-append}
+use lib.Seq.{getD-at}
+use Rattle.stirling.specs.Count.{c}
+use Rattle.gray.specs.Order.{S}
+use Rattle.gray.specs.Listing.{rowAt}
+use Rattle.gray.proofs.Once.{length-S, complete}
+
+-- the element with q others after it stands at q in the reversed list
+pub getD-reverse {ℓ} : {A : Type ℓ} (l : List A) (d : A) (r q : ℕ) → suc (r + q) ≡ length l → getD (reverse l) r d ≡ getD l q d
+getD-reverse [] d r q e = absurd (omega arith)
+getD-reverse (x ∷ l) d r zero e = rw reverse-cons (getD-at (reverse l) x [] d r (rw length-reverse (omega arith)))
+getD-reverse (x ∷ l) d r (suc q) e =
+    rw reverse-cons (List·getD-append (reverse l) (x ∷ []) d r (rw length-reverse (omega arith)) ∙ getD-reverse l d r q (omega arith))
+
+-- read backward, the row at a place of S(n,k) is the one with as many rows after it
+pub rowAt-reverse : (n k r q : ℕ) → suc (r + q) ≡ c n k → rowAt (reverse (S n k)) r ≡ rowAt (S n k) q
+rowAt-reverse n k r q e = getD-reverse (S n k) [] r q (e ∙ sym (length-S n k))
+
+-- a row of S(n,k) has n values, in either reading
+pub row-size : (n k r : ℕ) (b : Bool) → r < c n k → length (rowAt (cond b (reverse (S n k)) (S n k)) r) ≡ n
+row-size n k r false h = complete n k .sound r (rw (length-S n k) h) .permutation .size
+row-size n k r true h =
+    let q = c n k - 1 - r in
+    rw (rowAt-reverse n k r q (omega arith)) (complete n k .sound q (rw (length-S n k) (omega arith)) .permutation .size)

@@ -1,0 +1,65 @@
+-- `rank::unrank` meets its contract: each return is the refusal of the first check that applies, or the row read forward. Assumes nothing.
+use borrow.Author.Needs.{needs}
+use borrow.Author.Tests.{eq-eqb, ne-eqb}
+use mathlib.Core.Path.{_≡_, refl, sym, _∙_}
+use Prim.Native.Nat.{ℕ}
+use native.Mathlib.Omega.{arith}
+use lib.ListN.{length}
+use Rattle.stirling.specs.Count.{checkPlace}
+use Rattle.stirling.proofs.Refusals.{then-passes, then-stops}
+use Rattle.stirling.proofs.Counts.{place-passed}
+use Rattle.perm.specs.Checks.{checkLent}
+use Rattle.rank.specs.Place.{checkUnrank}
+use Rattle.rank.proofs.unrank.Statement.{statement}
+use Rattle.rank.proofs.unrank.Tie as tie
+
+-- where checks 1 to 3 pass, check 5 decides
+lent-refused : (n k place size : ℕ) → checkPlace n k place ≡ 0 → (size ≡ n → ⊥) → checkUnrank n k place size ≡ 5
+lent-refused n k place size z h = then-passes (checkPlace n k place) (checkLent n size) z ∙ rw (ne-eqb size n h)
+
+passed : (n k place size : ℕ) → checkPlace n k place ≡ 0 → size ≡ n → checkUnrank n k place size ≡ 0
+passed n k place size z h = then-passes (checkPlace n k place) (checkLent n size) z ∙ rw (eq-eqb size n h)
+
+check-place-requires : tie.Need-check-place-requires
+check-place-requires c κs = search needs
+
+returns : tie.Need-returns
+returns c =
+    record {
+      refusal = then-stops _ _ _ (c .before .check-place .ensures) (c .if1 .taken);
+      written = λ z. absurd (c .if1 .taken z);
+      kept = λ _. refl;
+    }
+
+returns-2 : tie.Need-returns-2
+returns-2 c =
+    let e = c .before .before .before .before in
+    let z = sym (c .before .before .check-place .ensures) ∙ c .before .if1 .left in
+    record {
+      refusal = sym (lent-refused (e .args .n) (e .args .k) (e .args .place) (length (e .args .out .now)) z (c .if2 .taken));
+      written = λ z. absurd (omega arith);
+      kept = λ _. refl;
+    }
+
+unrank-forward-requires : tie.Need-unrank-forward-requires
+unrank-forward-requires c κs =
+    let e = c .before .before .before .before .before in
+    let p = place-passed (e .args .n) (e .args .k) (e .args .place) (sym (c .before .before .before .check-place .ensures) ∙ c .before .before .if1 .left) in
+    record { small = p .1; below = p .4; lent = c .before .if2 .left }
+
+same-length : tie.Need-same-length
+same-length c = search needs
+
+returns-3 : tie.Need-returns-3
+returns-3 c =
+    let b = c .before .before .before .before in
+    let e = b .before .before .before .before in
+    let z = sym (b .before .before .check-place .ensures) ∙ b .before .if1 .left in
+    record {
+      refusal = sym (passed (e .args .n) (e .args .k) (e .args .place) (length (e .args .out .now)) z (b .if2 .left));
+      written = λ _. c .before .before .unrank-forward .ensures;
+      kept = λ h. absurd (h refl);
+    }
+
+pub unrank-spec : {M : Type 1} → statement M
+unrank-spec = tie.close (tie.spec check-place-requires returns returns-2 unrank-forward-requires same-length returns-3)
