@@ -8,3 +8,6 @@ pub mod Arrays
 pub mod Parity
 pub mod Apart
 pub mod Checked
+pub mod Refused
+pub mod Search
+pub mod Steps

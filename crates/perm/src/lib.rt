@@ -1,1 +1,211 @@
-// Permutations and their transposition arrays.
+// Permutations and their transposition arrays, as byte slices: the checks 5, 6 and 7, and the calls from one to the other.
+ghost use mathlib.Core.Path.{_≡_};
+ghost use Prim.Native.Nat.{_≤_, _<_};
+ghost use lib.Dec.{eqb};
+ghost use lib.ListN.{length, getD};
+ghost use Rattle.stirling.specs.Refusal.{within, _then_};
+ghost use Rattle.stirling.specs.Count.{checkSize};
+ghost use Rattle.perm.specs.Lists.{tally};
+ghost use Rattle.perm.specs.Permutation.{IsPermutation};
+ghost use Rattle.perm.specs.Array.{IsArray, IsArrayOf, product};
+ghost use Rattle.perm.specs.Checks.{checkLent, checkValues, checkTwice, checkEntries, checkPermutation, ToArray, FromArray};
+
+// Check 5: a written slice that is not n long.
+pub const REFUSED_LENT: u8 = 5;
+// Check 6: a value not 1 to n, or an array's entry i not 1 to i.
+pub const REFUSED_VALUE: u8 = 6;
+// Check 7: a value twice.
+pub const REFUSED_TWICE: u8 = 7;
+
+// Whether a value is 1 to n.
+fn in_range(v: u8, n: usize) -> bool
+    ensures { λ r. ⌜ r ≡ within 1 n v ⌝ }
+{
+    1 <= v && (v as usize) <= n
+}
+
+// A byte as an index's type.
+fn wide(x: u8) -> usize
+    ensures { λ r. ⌜ r ≡ x ⌝ }
+{
+    x as usize
+}
+
+// How often the value v occurs.
+fn occurrences(s: &[u8], v: usize) -> usize
+    ensures { λ r. ⌜ r ≡ tally (eqb v) (now (s .entry)) ⌝ }
+{
+    let mut count: usize = 0;
+    let mut i = 0;
+    while i < s.len() {
+        if wide(s[i]) == v {
+            count += 1;
+        }
+        i += 1;
+    }
+    count
+}
+
+// Check 6 on a permutation: REFUSED_VALUE if some value is not 1 to n.
+fn check_values(s: &[u8]) -> u8
+    ensures { λ r. ⌜ r ≡ checkValues (now (s .entry)) ⌝ }
+{
+    let mut i = 0;
+    while i < s.len() {
+        if !in_range(s[i], s.len()) {
+            return REFUSED_VALUE;
+        }
+        i += 1;
+    }
+    0
+}
+
+// Check 7: REFUSED_TWICE if some value of 1 to n occurs more than once.
+fn check_twice(s: &[u8]) -> u8
+    ensures { λ r. ⌜ r ≡ checkTwice (now (s .entry)) ⌝ }
+{
+    let mut i = 0;
+    while i < s.len() {
+        if 1 < occurrences(s, i + 1) {
+            return REFUSED_TWICE;
+        }
+        i += 1;
+    }
+    0
+}
+
+// Check 6 on an array: REFUSED_VALUE if some entry i is not 1 to i.
+fn check_entries(a: &[u8]) -> u8
+    ensures { λ r. ⌜ r ≡ checkEntries (now (a .entry)) ⌝ }
+{
+    let mut i = 0;
+    while i < a.len() {
+        if !in_range(a[i], i + 1) {
+            return REFUSED_VALUE;
+        }
+        i += 1;
+    }
+    0
+}
+
+// The checks 6 and 7 on a permutation, all of 6 before any of 7.
+fn check_contents(s: &[u8]) -> u8
+    ensures { λ r. ⌜ r ≡ checkValues (now (s .entry)) then checkTwice (now (s .entry)) ⌝ }
+{
+    let values = check_values(s);
+    if values != 0 {
+        return values;
+    }
+    check_twice(s)
+}
+
+// The checks of a permutation that is read: 1, 6, 7.
+pub fn check_permutation(s: &[u8]) -> u8
+    ensures { λ r. ⌜ r ≡ checkPermutation (now (s .entry)) ⌝ }
+{
+    let size = stirling::check_size(s.len() as u64);
+    if size != 0 {
+        return size;
+    }
+    check_contents(s)
+}
+
+// The checks 1 and 5 on the lengths of the slice that is read and of the one that is lent.
+fn check_lengths(read: usize, lent: usize) -> u8
+    ensures { λ r. ⌜ r ≡ checkSize read then checkLent read lent ⌝ }
+{
+    let size = stirling::check_size(read as u64);
+    if size != 0 {
+        return size;
+    }
+    if lent != read {
+        return REFUSED_LENT;
+    }
+    0
+}
+
+// The bytes of s, written to a slice of its length.
+fn copy(s: &[u8], out: &mut [u8])
+    requires { ⌜ length (now out) ≡ length (now s) ⌝ }
+    ensures { λ r. ⌜ now (out .exit) ≡ now (s .entry) ⌝ }
+{
+    let mut i = 0;
+    while i < s.len() {
+        out[i] = s[i];
+        i += 1;
+    }
+}
+
+// The index of a value that occurs.
+fn position(s: &[u8], v: usize) -> usize
+    requires { ⌜ 0 < tally (eqb v) (now s) ⌝ }
+    ensures { λ r. ⌜ (r < length (now (s .entry))) × (getD (now (s .entry)) r 0 ≡ v) ⌝ }
+{
+    let mut i = 0;
+    while wide(s[i]) != v {
+        i += 1;
+    }
+    i
+}
+
+// The array of the permutation s. From the last position down: the value m stands at index i of the first m, so entry m is i + 1,
+// and the value at position m takes its place.
+fn write_array(s: &[u8], out: &mut [u8])
+    requires { ⌜ (length (now s) ≤ 20) × (length (now out) ≡ length (now s)) × IsPermutation (length (now s)) (now s) ⌝ }
+    ensures { λ r. ⌜ IsArrayOf (now (s .entry)) (now (out .exit)) ⌝ }
+{
+    copy(s, out);
+    let mut m = out.len();
+    while 0 < m {
+        let i = position(&out[..m], m);
+        m -= 1;
+        out[i] = out[m];
+        out[m] = (i + 1) as u8;
+    }
+}
+
+// The permutation of the array a. From the first position up: position m takes the value at the position that entry m names, which takes the value m.
+fn write_product(a: &[u8], out: &mut [u8])
+    requires { ⌜ (length (now a) ≤ 20) × (length (now out) ≡ length (now a)) × IsArray (length (now a)) (now a) ⌝ }
+    ensures { λ r. ⌜ now (out .exit) ≡ product (now (a .entry)) ⌝ }
+{
+    let mut m = 0;
+    while m < a.len() {
+        let i = wide(a[m]) - 1;
+        out[m] = out[i];
+        m += 1;
+        out[i] = m as u8;
+    }
+}
+
+// The array of the permutation s, written to `out`. Refusals 1, 5, 6, 7 in document 01's order; a refused call writes nothing.
+pub fn to_array(s: &[u8], out: &mut [u8]) -> u8
+    ensures { λ r. ⌜ ToArray (now (s .entry)) (now (out .entry)) r (now (out .exit)) ⌝ }
+{
+    let lengths = check_lengths(s.len(), out.len());
+    if lengths != 0 {
+        return lengths;
+    }
+    let contents = check_contents(s);
+    if contents != 0 {
+        return contents;
+    }
+    write_array(s, out);
+    0
+}
+
+// The permutation of the array a, written to `out`. Refusals 1, 5, 6 in document 01's order; a refused call writes nothing.
+pub fn from_array(a: &[u8], out: &mut [u8]) -> u8
+    ensures { λ r. ⌜ FromArray (now (a .entry)) (now (out .entry)) r (now (out .exit)) ⌝ }
+{
+    let lengths = check_lengths(a.len(), out.len());
+    if lengths != 0 {
+        return lengths;
+    }
+    let entries = check_entries(a);
+    if entries != 0 {
+        return entries;
+    }
+    write_product(a, out);
+    0
+}
