@@ -5,18 +5,14 @@ use native.Mathlib.Numerals.{add-one}
 use native.Mathlib.Decide.{decLe}
 use mathlib.Core.Path.{_≡_, refl, sym, _∙_}
 use mathlib.Core.List.{List, [], _∷_, _++_, append-assoc, append-nil}
-use lib.ListN.{length, getD, take, drop, set, length-set, length-append, List·getD-append}
+use lib.ListN.{length, getD, take, drop, set, length-set, List·getD-append}
 use lib.Seq.{take-length, drop-length, take-set-le, take-set-lt, take-take, drop-set-lt, drop-cons, getD-set-same, getD-take, length-take-le, set-getD, set-set, set-append-left, getD-at, take-at, take-suc, take-suc-set, take-all}
 use Rattle.perm.specs.Lists.{range}
 use Rattle.perm.specs.Permutation.{IsPermutation, at, extend, insert}
 use Rattle.perm.specs.Array.{IsArray, IsArrayOf, product, partial}
-use Rattle.perm.proofs.Values.{injective}
+use Rattle.perm.proofs.Values.{injective, at-suc}
 use Rattle.perm.proofs.Split.{Split, extended, inserted, split}
-use Rattle.perm.proofs.Arrays.{product-extend, product-insert}
-
--- position i + 1 is index i
-at-suc : (s : List ℕ) (i : ℕ) → at s (suc i) ≡ getD s i 0
-at-suc s i = let e : suc i - 1 ≡ i = omega arith in rw e
+use Rattle.perm.proofs.Arrays.{product-extend, product-insert, array-append}
 
 -- two indices of a permutation with one value are one
 same-index : {n : ℕ} {s : List ℕ} → IsPermutation n s → (i j : ℕ) → i < n → j < n → getD s i 0 ≡ getD s j 0 → i ≡ j
@@ -27,21 +23,6 @@ same-index {s = s} p i j hi hj e =
 -- the entry at index m
 pub entry-bound : {a : List ℕ} → IsArray (length a) a → (m : ℕ) → m < length a → (1 ≤ getD a m 0) × (getD a m 0 ≤ suc m)
 entry-bound {a = a} i m h = rw at-suc at (i .bound (suc m) (omega arith) h)
-
--- one entry more
-array-append : {m : ℕ} {p : List ℕ} (x : ℕ) → 1 ≤ x → x ≤ suc m → IsArray m p → IsArray (suc m) (p ++ (x ∷ []))
-array-append {m = m} {p = p} x h k a =
-    record {
-      size = length-append p (x ∷ []) ∙ omega (arith, a .size);
-      bound = λ i hi ki. by-last i hi ki (decLe i m);
-    }
-  where
-    by-last : (i : ℕ) → 1 ≤ i → i ≤ suc m → Dec (i ≤ m) → (1 ≤ at (p ++ (x ∷ [])) i) × (at (p ++ (x ∷ [])) i ≤ i)
-    by-last i hi ki (yes l) = rw (List·getD-append p (x ∷ []) 0 (i - 1) (omega (arith, a .size))) (a .bound i hi l)
-    by-last i hi ki (no l) =
-        let e : length p ≡ i - 1 = omega (arith, a .size) in
-        let f : at (p ++ (x ∷ [])) i ≡ x = getD-at p x [] 0 (i - 1) e in
-        omega arith
 
 -- the first entries of an array
 array-take : {n : ℕ} {p : List ℕ} (m : ℕ) → m ≤ n → IsArray n p → IsArray m (take m p)
