@@ -54,18 +54,18 @@ module _ (n : ℕ) where
       let g = eqb-false n 3 t in
       inserts 1 (omega arith)
       (inserts (n - 1) (omega arith)
-      (append (falling-in (λ i. 0) (n - 3) (suc (n - 3) - 2) (omega arith) (omega arith)) (inserts (n - 2) (omega arith) (extends nil))))
+      (append (falling-in _ (n - 3) (suc (n - 3) - 2) (omega arith) (omega arith)) (inserts (n - 2) (omega arith) (extends nil))))
 
   d-in : 4 ≤ n → Each n (blocksD n)
   d-in h =
       inserts 1 (omega arith)
-      (append (rising-in (λ i. i) 3 (suc (n - 1) - 3) (omega arith) (omega arith)) (extends (inserts 2 (omega arith) nil)))
+      (append (rising-in _ 3 (suc (n - 1) - 3) (omega arith) (omega arith)) (extends (inserts 2 (omega arith) nil)))
 
   e-in : (k : ℕ) → 2 ≤ k → k + 3 ≤ n → Each n (blocksE n k)
   e-in k h l =
       inserts 1 (omega arith)
-      (append (falling-in (λ i. i) (n - 1) (suc (n - 1) - (k + 1)) (omega arith) (omega arith))
-      (extends (falling-in (λ i. i - 1) k (suc k - 2) (omega arith) (omega arith))))
+      (append (falling-in _ (n - 1) (suc (n - 1) - (k + 1)) (omega arith) (omega arith))
+      (extends (falling-in _ k (suc k - 2) (omega arith) (omega arith))))
 
 a-in : (n : ℕ) → Each n (blocksOfA n)
 unfolding blocksOfA
@@ -77,7 +77,7 @@ a-in (suc (suc (suc (suc zero)))) =
     inserts 1 (omega arith) (inserts 2 (omega arith) (inserts 3 (omega arith) nil))
 a-in (suc (suc (suc (suc (suc m))))) =
     inserts 1 (omega arith)
-    (append (falling-in _ (λ i. i + 1) (5 + m - 1) (suc (5 + m - 1) - 4) (omega arith) (omega arith))
+    (append (falling-in _ _ (5 + m - 1) (suc (5 + m - 1) - 4) (omega arith) (omega arith))
     (inserts 2 (omega arith) (inserts 3 (omega arith) nil)))
 
 by-letter : (n k : ℕ) → Which n k → Each n (blocks n k)

@@ -78,7 +78,7 @@ inserts-only n L M N f a (suc c) bs e = rw (inserts-only n L M N f (a - 1) c bs 
 -- so (a) for n ≥ 5, which has none but these, may be given any
 longer-a : (n : ℕ) (L M : List Row) → joined n L [] (blocksA n) ≡ joined n L M (blocksA n)
 unfolding joined rows
-longer-a n L M = ap (λ (r : List Row). rows n L M (I 1 0) ++ r) (inserts-only n L [] M (λ i. i + 1) (n - 1) _ (I 2 0 ∷ I 3 1 ∷ []) refl)
+longer-a n L M = ap (λ (r : List Row). rows n L M (I 1 0) ++ r) (inserts-only n L [] M _ (n - 1) _ (I 2 _ ∷ I 3 _ ∷ []) refl)
 
 -- the rows that (a) writes out are blocks
 written-a : (n : ℕ) → relationA (suc n) (S n 1) ≡ joined (suc n) (S n 1) (S n 0) (blocksOfA (suc n))

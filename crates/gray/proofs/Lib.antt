@@ -9,7 +9,7 @@ pub mod Once
 pub mod Exchange
 pub mod Step
 pub mod Run
-pub mod Relations
+pub mod Adjacent
 pub mod Ends
 pub mod Induction
 pub mod Neighbours

@@ -45,12 +45,12 @@ module _ {m : ℕ} (γ : List ℕ) (i : ℕ) (h : 1 ≤ i) (k : i ≤ m) (z : le
   -- I(i,γ) has one value more
   pub length-insert : length (insert (suc m) i γ) ≡ suc m
   unfolding insert
-  length-insert = omega (arith, length-put, length-append (put γ i (suc m)) (at γ i ∷ []))
+  length-insert = simp length-append (omega (arith, length-put))
 
   -- the value of I(i,γ) at position i
   pub at-insert-here : at (insert (suc m) i γ) i ≡ suc m
   unfolding insert
-  at-insert-here = at-snoc-low (put γ i (suc m)) (at γ i) i h (omega (arith, length-put)) ∙ getD-set-same γ (i - 1) (suc m) 0 (omega arith)
+  at-insert-here = at-snoc-low (put γ i (suc m)) _ i h (omega (arith, length-put)) ∙ getD-set-same γ (i - 1) (suc m) 0 (omega arith)
 
   -- at the last position
   pub at-insert-top : at (insert (suc m) i γ) (suc m) ≡ at γ i
@@ -61,7 +61,7 @@ module _ {m : ℕ} (γ : List ℕ) (i : ℕ) (h : 1 ≤ i) (k : i ≤ m) (z : le
   pub at-insert-other : (j : ℕ) → 1 ≤ j → j ≤ m → (j ≡ i → ⊥) → at (insert (suc m) i γ) j ≡ at γ j
   unfolding insert
   at-insert-other j hj kj d =
-      at-snoc-low (put γ i (suc m)) (at γ i) j hj (omega (arith, length-put)) ∙ getD-set-other γ (i - 1) (j - 1) (suc m) 0 (omega arith)
+      at-snoc-low (put γ i (suc m)) _ j hj (omega (arith, length-put)) ∙ getD-set-other γ (i - 1) (j - 1) (suc m) 0 (omega arith)
 
   -- I(i,γ) has the values of E(γ)
   pub tally-insert : (p : ℕ → Bool) → tally p (insert (suc m) i γ) ≡ tally p (extend (suc m) γ)
