@@ -2,6 +2,9 @@ pub mod Parity
 pub mod Reversed
 pub mod Grown
 pub mod Search
+pub mod Parts
+pub mod Ranking
+pub mod Stands
 pub mod Reading
 pub mod RowBytes
 pub mod RowChecks

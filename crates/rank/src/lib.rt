@@ -1,20 +1,23 @@
 // From a place of S(n,k) to its permutation and back, and rows into a lent buffer.
 use gray::Block;
+use perm::REFUSED_LENT;
 ghost use mathlib.Core.Path.{_≡_};
 ghost use Prim.Native.Nat.{_+_, _-_, _*_, _≤_, _<_};
+ghost use mathlib.Core.Bool.{true, false};
 ghost use mathlib.Core.List.{_++_, reverse};
+ghost use lib.Dec.{eqb};
 ghost use lib.ListN.{length, take, drop};
 ghost use Rattle.stirling.specs.Count.{c};
+ghost use Rattle.perm.specs.Lists.{tally, positions};
+ghost use Rattle.perm.specs.Permutation.{at};
 ghost use Rattle.gray.specs.Order.{S};
 ghost use Rattle.gray.specs.Listing.{rowAt};
-ghost use Rattle.rank.specs.Place.{Unranked, checkRowCount, rowsFrom, RowsWritten};
+ghost use Rattle.rank.specs.Place.{Unranked, Ranked, checkRowCount, rowsFrom, RowsWritten};
 ghost use Rattle.rank.specs.Search.{grown, sourceOf, ComesFrom, Readable};
+ghost use Rattle.rank.specs.Ranking.{Occurs, IsPart, Rankable, PlaceIn};
 
 // The refusal of check 4.
 pub const REFUSED_ROWS: u8 = 4;
-
-// The refusal of check 5.
-const REFUSED_LENT: u8 = 5;
 
 // The most rows of one call.
 const MOST_ROWS: u64 = 1000;
@@ -34,6 +37,13 @@ struct Source {
     cycles: u64,
     backward: bool,
     place: u64,
+}
+
+// The part of S(n,k) that one block makes: `start` rows stand before it, and it is made from S(n-1,cycles), read forward or backward.
+struct Part {
+    start: u64,
+    cycles: u64,
+    backward: bool,
 }
 
 // What a block of S(n,k) makes its row at a place from.
@@ -137,6 +147,105 @@ pub fn unrank(n: u64, k: u64, place: u64, out: &mut [u8]) -> u8
     }
     unrank_forward(n, k, place, out);
     0
+}
+
+// The part of S(n,k) that has value n at position i: the blocks are passed, one after the other, and their rows counted, up to the one that puts n there.
+fn part_with(n: u64, k: u64, i: u64) -> Part
+    requires { ⌜ Occurs n k i ⌝ }
+    ensures { λ r. ⌜ IsPart n k i r ⌝ }
+{
+    let mut start = 0;
+    let mut j = 0;
+    loop {
+        let source = source_of(n, k, gray::block_at(n, k, j), 0);
+        if source.position == i {
+            return Part {
+                start,
+                cycles: source.cycles,
+                backward: source.backward,
+            };
+        }
+        start += stirling::lookup(n - 1, source.cycles);
+        j += 1;
+    }
+}
+
+// The place in S(n,k), read forward, of the permutation of a transposition array of n entries.
+fn rank_forward(a: &[u8], k: u64) -> u64
+    requires { ⌜ Rankable (now a) k ⌝ }
+    ensures { λ r. ⌜ PlaceIn false (now (a .entry)) k r ⌝ }
+{
+    let n = a.len();
+    if n == 0 {
+        return 0;
+    }
+    let last = n - 1;
+    let part = part_with(n as u64, k, a[last] as u64);
+    let inner = if part.backward {
+        rank_backward(&a[..last], part.cycles)
+    } else {
+        rank_forward(&a[..last], part.cycles)
+    };
+    part.start + inner
+}
+
+// The place in S(n,k), read backward, of the permutation of a transposition array of n entries: place 0 is the last row.
+fn rank_backward(a: &[u8], k: u64) -> u64
+    requires { ⌜ Rankable (now a) k ⌝ }
+    ensures { λ r. ⌜ PlaceIn true (now (a .entry)) k r ⌝ }
+{
+    let n = a.len();
+    if n == 0 {
+        return 0;
+    }
+    let last = n - 1;
+    let part = part_with(n as u64, k, a[last] as u64);
+    let inner = if part.backward {
+        rank_backward(&a[..last], part.cycles)
+    } else {
+        rank_forward(&a[..last], part.cycles)
+    };
+    stirling::lookup(n as u64, k) - 1 - (part.start + inner)
+}
+
+// How many entries i of a transposition array are i itself: the number of cycles of its permutation.
+fn fixed_entries(a: &[u8]) -> u64
+    ensures { λ r. ⌜ r ≡ tally (λ i. eqb (at (now (a .entry)) i) i) (positions (length (now (a .entry)))) ⌝ }
+{
+    let mut fixed = 0;
+    let mut i = 0;
+    while i < a.len() {
+        if a[i] as usize == i + 1 {
+            fixed += 1;
+        }
+        i += 1;
+    }
+    fixed
+}
+
+// Where a permutation stands: its number of cycles k, and its place in S(n,k), where n is the slice's length. Refusals in document 01's order.
+pub fn rank(s: &[u8]) -> Standing
+    ensures { λ r. ⌜ Ranked (now (s .entry)) r ⌝ }
+{
+    let refusal = perm::check_permutation(s);
+    if refusal != 0 {
+        return Standing {
+            refusal,
+            k: 0,
+            place: 0,
+        };
+    }
+    let n = s.len();
+    let mut array = [0u8; 20];
+    perm::to_array(s, &mut array[..n]);
+    let entries = &array[..n];
+    let k = fixed_entries(entries);
+    let place = rank_forward(entries, k);
+    Standing {
+        refusal: 0,
+        k,
+        place,
+    }
 }
 
 // Checks 1, 2 and 3, then check 4: m is 1 to 1,000, and S(n,k) has m rows from the place on.

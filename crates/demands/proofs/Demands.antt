@@ -1,0 +1,98 @@
+-- The request's demands 2 and 3 as theorems, to be read from top to bottom beside it. Each is a law of a crate below, stated in full here so that nothing has
+-- to be looked up but the definitions in specs/. What demand 1 asks is met by the proofs of the functions themselves (docs/DEMANDS.md says how).
+-- Assumes nothing.
+use mathlib.Core.Path.{_≡_, refl, _∙_, sym}
+use Prim.Native.Nat.{ℕ, _≤_, _<_, _^_}
+use mathlib.Core.List.{List}
+use lib.Dec.{eqb}
+use lib.ListN.{length}
+use Rattle.stirling.specs.Count.{c, countOf, checkCycles}
+use Rattle.stirling.proofs.Counts.{cycles-passes, fits}
+use Rattle.perm.specs.Lists.{tally, positions}
+use Rattle.perm.specs.Permutation.{IsPermutation, at, distance}
+use Rattle.perm.specs.Cycle.{cycles}
+use Rattle.perm.specs.Array.{IsArray, IsArrayOf, product}
+use Rattle.perm.proofs.Arrays.{product-permutation, has-array, one-array, cycles-product}
+use Rattle.perm.proofs.Apart as Apart
+use Rattle.gray.specs.Order.{Row, S}
+use Rattle.gray.specs.Listing.{rowAt, HasCycles, Complete, Neighbours, Closed}
+use Rattle.gray.proofs.Once as Once
+use Rattle.gray.proofs.Neighbours as Neighbours
+use Rattle.gray.proofs.Cases as Cases
+use Rattle.rank.specs.Place.{Unranked, Ranked}
+use Rattle.rank.specs.declared.Standing.{Standing}
+use Rattle.rank.proofs.RoundTrip.{place-back, permutation-back}
+use Rattle.cursor.specs.Machine.{Machine, Call, Steps, rowOf, refusalOf, turn, answered, IsStep}
+use Rattle.cursor.specs.Walk.{walkRun, plainRun}
+use Rattle.cursor.proofs.Calls as Calls
+use Rattle.cursor.proofs.Calls.{OnPlace}
+use Rattle.cursor.proofs.Steps as Steps
+
+-- ---- Demand 2: the counts, the lists, the places and the transposition arrays equal those of relations (a) to (e), from place to permutation and back
+
+-- the counts: for 1 ≤ k ≤ n ≤ 20 the call Count serves c(n,k), which fits 64 bits and is the length of S(n,k)
+pub counts : (n k : ℕ) → 1 ≤ k → k ≤ n → n ≤ 20 → (countOf n k ≡ record { refusal = 0; count = c n k }) × (c n k < 2 ^ 64) × (length (S n k) ≡ c n k)
+counts n k low high most = (rw (cycles-passes n k most low high), fits n k most, Once.length-S n k)
+
+-- from place to permutation and back: a permutation written for a place of S(n,k) is ranked k and that place
+pub place-to-place : {n k place : ℕ} {before after : List ℕ} → Unranked n k place before 0 after
+    → (r : Standing)
+    → Ranked after r
+    → r ≡ record { refusal = 0; k = k; place = place }
+place-to-place = place-back
+
+-- from permutation to place and back: what is written for the place of a permutation is that permutation, and it is not refused
+pub permutation-to-permutation : {s before after : List ℕ} {r : Standing} {q : ℕ} → Ranked s r
+    → r .refusal ≡ 0
+    → length before ≡ length s
+    → Unranked (length s) (r .k) (r .place) before q after
+    → (q ≡ 0) × (after ≡ s)
+permutation-to-permutation = permutation-back
+
+-- the arrays: every array gives a permutation, every permutation has an array, and only one; its fixed entries are as many as the cycles
+pub array-to-permutation : {n : ℕ} {p : List ℕ} → IsArray n p → IsPermutation n (product p)
+array-to-permutation = product-permutation
+
+pub permutation-to-array : {n : ℕ} {s : List ℕ} → IsPermutation n s → (p : List ℕ) × IsArrayOf s p
+permutation-to-array = has-array
+
+pub one-array-only : {n : ℕ} {p q : List ℕ} → IsArray n p → IsArray n q → product p ≡ product q → p ≡ q
+one-array-only = one-array
+
+pub fixed-entries : {n : ℕ} {p : List ℕ} → IsArray n p → cycles (product p) ≡ tally (λ i. eqb (at p i) i) (positions n)
+fixed-entries = cycles-product
+
+-- ---- Demand 3, first half: every list of calls
+
+-- for every open that is not refused and every list of calls after it, each call getting the record that the one before handed back: after the open and
+-- after each call, the record and the answer (refusal, three positions, what show hands out) are the plain machine's. One claim about the whole list
+pub calls : (n k : ℕ) → checkCycles n k ≡ 0 → (cs : List Call) → walkRun n k cs ≡ plainRun n k cs
+calls = Calls.calls
+
+-- at each forward or back that is not refused the three positions are different, the first is the smallest, new = old·⟨i,j,l⟩, and no other three are so
+pub steps : (m : Machine) (call : Call) → OnPlace m → Steps call → refusalOf m call ≡ 0
+    → IsStep (m .n) (rowOf m) (rowOf (turn m call)) (answered m call .i) (answered m call .j) (answered m call .l)
+steps = Steps.steps
+
+-- ---- Demand 3, second half: the lists. For all n and k, so for all with 1 ≤ k ≤ n ≤ 20
+
+-- S(n,k) holds every permutation of n with exactly k cycles, counted by following, exactly once, and nothing else
+pub complete : (n k : ℕ) → Complete n k (S n k)
+complete = Once.complete
+
+-- neighbours in it differ by three values going round on three positions
+pub neighbours : (n k : ℕ) → Neighbours n (S n k)
+neighbours = Neighbours.neighbours
+
+-- last and first too, where it has two rows or more
+pub closed : (n k : ℕ) → Closed n (S n k)
+closed = Neighbours.closed
+
+-- every two different permutations of n with k cycles differ on at least three positions
+pub three-apart : (n k : ℕ) (s t : Row) → HasCycles n k s → HasCycles n k t → (s ≡ t → ⊥) → 3 ≤ distance s t
+three-apart n k s t p q different = Apart.three-apart (p .permutation) (q .permutation) (p .count ∙ sym (q .count)) different
+
+-- ---- Document 01's "What is proved of the cases", with its edges
+
+pub cases : Cases.Table
+cases = Cases.table

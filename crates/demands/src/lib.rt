@@ -1,0 +1,1 @@
+// The demands as theorems: proofs/Demands.antt. This crate has no code.

@@ -1,0 +1,115 @@
+-- `rank::part_with` meets its contract. The loop's invariant: the blocks before j are passed, with `start` rows. The measure is the number of blocks left.
+-- Assumes nothing.
+use borrow.Author.Needs.{needs}
+use mathlib.Core.Path.{_≡_, sym, ap, _∙_}
+use Prim.Native.Nat.{_+_, _-_, _<_}
+use native.Mathlib.Omega.{arith}
+use lib.ListN.{length}
+use Rattle.stirling.specs.Count.{c as count}
+use Rattle.stirling.proofs.Counts.{inside, looked-up, fits}
+use Rattle.gray.specs.declared.Block.{Block}
+use Rattle.gray.specs.Blocks.{blocks}
+use Rattle.gray.proofs.Blocks.{few-blocks}
+use Rattle.rank.specs.declared.Source.{Source}
+use Rattle.rank.specs.Search.{sourceOf}
+use Rattle.rank.proofs.Search.{source}
+use Rattle.rank.proofs.Parts.{Passed, none-passed, block-ahead, passes, is-part}
+use Rattle.rank.proofs.part_with.Statement.{statement}
+use Rattle.rank.proofs.part_with.Tie as tie
+
+abbrev Inv-loop : tie.InvT-loop
+Inv-loop n k i start₀ j₀ start j = Passed n k i start j
+
+abbrev μ-loop : tie.MeasureT-loop
+μ-loop n k i start₀ j₀ start j = length (blocks n k) - j
+
+loop-holds : tie.Need-loop-holds Inv-loop μ-loop
+loop-holds c = none-passed (c .args .n) (c .args .k) (c .args .i) (omega (arith, c .pre .position))
+
+block-at-requires : tie.Need-block-at-requires Inv-loop μ-loop
+block-at-requires c κs = search needs
+
+source-of-requires : tie.Need-source-of-requires Inv-loop μ-loop
+source-of-requires c κs =
+    let s = c .before .before in
+    inside (s .args .n) (s .args .k) (s .pre .place) (omega (arith, s .pre .position)) (s .pre .below) .0
+
+-- where the source of block j's first row is at hand: there is a block j, and the source is its own
+module _ (c : tie.After-source-of Inv-loop μ-loop) where
+  abbrev at-loop : tie.At-loop Inv-loop μ-loop
+  at-loop = c .before .before
+
+  abbrev entry : tie.Start Inv-loop μ-loop
+  entry = c .before .before .before
+
+  left : at-loop .loop .j < length (blocks (entry .args .n) (entry .args .k))
+  left = block-ahead (at-loop .loop .inv) (entry .pre)
+
+  is-found : c .source-of .result ≡ source (entry .args .n) (entry .args .k) (at-loop .loop .j) 0
+  is-found = c .source-of .ensures ∙ ap (λ (b : Block). sourceOf (entry .args .n) (entry .args .k) b 0) (c .before .block-at .ensures)
+
+  is-position : c .source-of .result .position ≡ source (entry .args .n) (entry .args .k) (at-loop .loop .j) 0 .position
+  is-position = ap (λ (s : Source). s .position) is-found
+
+returns : tie.Need-returns Inv-loop μ-loop
+returns c =
+    let s = c .before .before in
+    rw (is-found s)
+    (is-part (at-loop s .loop .inv) (omega (arith, entry s .pre .position)) (left s) (sym (is-position s) ∙ c .if1 .taken))
+
+sub-lookup : tie.Need-sub-lookup Inv-loop μ-loop
+sub-lookup c = omega (arith, entry (c .before .before) .pre .position)
+
+lookup-requires : tie.Need-lookup-requires Inv-loop μ-loop
+lookup-requires c κs = search needs
+
+-- block j is passed, with as many rows as are looked up
+next : (c : tie.After-lookup Inv-loop μ-loop)
+    → Passed
+    (entry (c .before .before .before) .args .n)
+    (entry (c .before .before .before) .args .k)
+    (entry (c .before .before .before) .args .i)
+    (at-loop (c .before .before .before) .loop .start + c .lookup .result)
+    (at-loop (c .before .before .before) .loop .j + 1)
+next c =
+    let s = c .before .before .before in
+    let e = entry s in
+    let n = e .args .n in
+    let is-size : c .lookup .result ≡ count (n - 1) (source n (e .args .k) (at-loop s .loop .j) 0 .cycles) =
+    c .lookup .ensures ∙ looked-up (n - 1) _ (omega (arith, e .pre .small)) ∙ ap (λ (s : Source). count (n - 1) (s .cycles)) (is-found s) in
+    rw is-size
+    (passes (at-loop s .loop .inv) (omega (arith, e .pre .position)) (left s) (λ q. c .before .if1 .left (is-position s ∙ q)))
+
+add-start : tie.Need-add-start Inv-loop μ-loop
+add-start c =
+    let e = entry (c .before .before .before) in
+    record { fits = omega (arith, next c .before (e .pre), e .pre .below, fits (e .args .n) (e .args .k) (e .pre .small)) }
+
+add-j : tie.Need-add-j Inv-loop μ-loop
+add-j c =
+    let s = c .before .before .before in
+    let e = entry s in
+    omega (arith, left s, few-blocks (e .args .n) (e .args .k), e .pre .small)
+
+loop-less : tie.Need-loop-less Inv-loop μ-loop
+loop-less c = omega (arith, left (c .before .before .before))
+
+loop-again : tie.Need-loop-again Inv-loop μ-loop
+loop-again c = next c
+
+pub part-with-spec : {M : Type 1} → statement M
+part-with-spec =
+    tie.close
+    (tie.spec
+    Inv-loop
+    μ-loop
+    loop-holds
+    block-at-requires
+    source-of-requires
+    returns
+    sub-lookup
+    lookup-requires
+    add-start
+    add-j
+    loop-less
+    loop-again)

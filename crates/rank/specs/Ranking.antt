@@ -1,0 +1,51 @@
+-- How a permutation's place is found from its transposition array: its last entry names a block of S(n,k), and the entries before it a row of the
+-- shorter list that the block is made from. These are definitions; nothing is assumed.
+use mathlib.Core.Path.{_≡_}
+use Prim.Native.Nat.{ℕ, _+_, _-_, _≤_, _<_}
+use mathlib.Core.Bool.{Bool, cond}
+use mathlib.Core.List.{List, reverse}
+use lib.Dec.{eqb}
+use lib.ListN.{length}
+use Rattle.stirling.specs.Count.{c}
+use Rattle.perm.specs.Permutation.{IsPermutation}
+use Rattle.perm.specs.Cycle.{cycles}
+use Rattle.perm.specs.Array.{IsArray, product}
+use Rattle.gray.specs.Order.{Row, S}
+use Rattle.gray.specs.Listing.{rowAt}
+use Rattle.rank.specs.Search.{grown}
+use Rattle.rank.specs.declared.Part.{Part}
+
+-- the cycles without value n, where n stands at position i of a permutation with k: at position n it is a cycle of its own
+abbrev pub cyclesLeft : ℕ → ℕ → ℕ → ℕ
+cyclesLeft n k i = cond (eqb i n) (k - 1) k
+
+-- some row of S(n,k) has value n at position i
+pub record Occurs (n k i : ℕ) : Type 0 where
+  pub small : n ≤ 20
+  pub position : (1 ≤ i) × (i ≤ n)
+  pub place : ℕ
+  pub below : place < c n k
+  pub shorter : Row
+  pub permutation : IsPermutation (n - 1) shorter
+  pub row : rowAt (S n k) place ≡ grown n i shorter
+
+-- S(n,k) read forward or backward
+abbrev pub readingOf : Bool → ℕ → ℕ → List Row
+readingOf backward n k = cond backward (reverse (S n k)) (S n k)
+
+-- the part of S(n,k) that has value n at position i: from `start` on, it is made from a list for n−1 row by row
+pub record IsPart (n k i : ℕ) (p : Part) : Type 0 where
+  pub left : p .cycles ≡ cyclesLeft n k i
+  pub below : (r : ℕ) → r < c (n - 1) (p .cycles) → p .start + r < c n k
+  pub row : (r : ℕ) → r < c (n - 1) (p .cycles) → rowAt (S n k) (p .start + r) ≡ grown n i (rowAt (readingOf (p .backward) (n - 1) (p .cycles)) r)
+
+-- a transposition array of at most 20 entries, whose permutation has k cycles
+pub record Rankable (a : List ℕ) (k : ℕ) : Type 0 where
+  pub small : length a ≤ 20
+  pub array : IsArray (length a) a
+  pub count : cycles (product a) ≡ k
+
+-- the permutation of an array stands at a place of S(n,k), read forward or backward
+pub record PlaceIn (backward : Bool) (a : List ℕ) (k place : ℕ) : Type 0 where
+  pub below : place < c (length a) k
+  pub row : rowAt (readingOf backward (length a) k) place ≡ product a
