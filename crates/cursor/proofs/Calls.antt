@@ -1,20 +1,19 @@
 -- Demand 3's claim about every list of calls: after the open and after each call, the record and the answer are the plain machine's.
 -- The machine stays within its list, and a record that shows it passes check 8. Assumes nothing.
-use mathlib.Core.Path.{_≡_, refl, ap, _∙_}
-use mathlib.Core.Bool.{Bool, true, false, _&&_}
+use mathlib.Core.Path.{_≡_, refl}
+use mathlib.Core.Bool.{true}
 use mathlib.Core.List.{List, [], _∷_}
-use Prim.Native.Nat.{ℕ, suc, _+_, _-_, _≤_, _<_}
+use Prim.Native.Nat.{ℕ, zero, suc, _+_, _≤_, _<_}
 use native.Mathlib.Omega.{arith}
-use lib.Dec.{leb, eqb}
-use borrow.Author.Tests.{lt-ltb, leb-false}
-use Rattle.stirling.specs.Refusal.{unless, refuse}
+use lib.Dec.{leb}
+use borrow.Author.Tests.{lt-ltb, leb-false, eq-eqb}
+use Rattle.stirling.specs.Refusal.{unless}
 use Rattle.stirling.specs.Count.{c, checkCycles}
-use Rattle.stirling.proofs.Refusals.{refuse-passed, within-holds, unless-passes}
+use Rattle.stirling.proofs.Refusals.{refuse-passed, within-holds}
 use Rattle.stirling.proofs.Counts.{cycles-passed, positive}
 use Rattle.perm.specs.Lists.{same}
 use Rattle.cursor.specs.Machine.{Machine, Call, forward, back, jump, show, observe, refusalOf, destination, moved, turn, turned, machineRun}
-use Rattle.cursor.specs.Walk.{sound, called, start, opened, callsRun, walkRun, plainRun, lastStep, replayed}
-use Rattle.cursor.specs.declared.Step.{Step}
+use Rattle.cursor.specs.Walk.{sound, called, start, opened, callsRun, walkRun, plainRun}
 
 -- a machine on a place of a list
 pub record OnPlace (m : Machine) : Type 0 where
@@ -22,26 +21,69 @@ pub record OnPlace (m : Machine) : Type 0 where
   pub cycles : (1 ≤ m .k) × (m .k ≤ m .n)
   pub below : m .place < c (m .n) (m .k)
 
+-- and on another place of the same list
+pub on-moved : (m : Machine) → OnPlace m → (place : ℕ) → place < c (m .n) (m .k) → OnPlace (moved m place)
+on-moved m on place h = record { size = on .size; cycles = on .cycles; below = h }
+
+-- a list is the same as itself
 pub same-refl : (xs : List ℕ) → same xs xs ≡ true
 unfolding same
 same-refl [] = refl
-same-refl (x ∷ xs) = rw (eqb-same x) (same-refl xs)
-  where
-    eqb-same : (y : ℕ) → eqb y y ≡ true
-    eqb-same y = ?
+same-refl (x ∷ xs) = rw (eq-eqb x x refl) (same-refl xs)
 
 -- a record that shows a machine on its place passes check 8
 pub sound-observe : (m : Machine) → OnPlace m → sound (observe m) ≡ true
 unfolding sound observe
 sound-observe m on =
-    rw (within-holds 1 20 (m .n) (on .size .0) (on .size .1), within-holds 1 (m .n) (m .k) (on .cycles .0) (on .cycles .1), lt-ltb (m .place) (c (m .n) (m .k)) (on .below), same-refl, same-refl) ?
+    simp (
+      within-holds 1 20 (m .n) (on .size .0) (on .size .1),
+      within-holds 1 (m .n) (m .k) (on .cycles .0) (on .cycles .1),
+      lt-ltb (m .place) (c (m .n) (m .k)) (on .below),
+      same-refl,
+    )
 
 -- a call on it gives what the machine shows after the call
 pub called-observe : (m : Machine) (call : Call) → OnPlace m → called (observe m) call ≡ turned m call
 unfolding called observe
-called-observe m call on = ?
+called-observe m call on = rw (sound-observe m on)
+
+-- a call that is not refused leads to a place of the list
+pub destination-below : (m : Machine) (call : Call) → OnPlace m → refusalOf m call ≡ 0 → destination m call < c (m .n) (m .k)
+destination-below m forward on e = leb-false (c (m .n) (m .k)) (m .place + 1) (refuse-passed (leb (c (m .n) (m .k)) (m .place + 1)) 8 e)
+destination-below m back on e = omega (arith, on .below)
+destination-below m show on e = on .below
+destination-below m (jump r) on e = leb-false (c (m .n) (m .k)) r (refuse-passed (leb (c (m .n) (m .k)) r) 2 e)
+
+-- a machine that moves, unless it is refused, between places of its list
+unless-on : (r : ℕ) (m m′ : Machine) → (r ≡ 0 → OnPlace m′) → OnPlace m → OnPlace (unless r m′ m)
+unless-on zero m m′ to on = to refl
+unless-on (suc r) m m′ to on = on
 
 -- a call leaves the machine on a place of its list
 pub turn-on : (m : Machine) (call : Call) → OnPlace m → OnPlace (turn m call)
 unfolding turn
-turn-on m call on = ?
+turn-on m call on =
+    unless-on
+    (refusalOf m call)
+    m
+    (moved m (destination m call))
+    (λ e. on-moved m on (destination m call) (destination-below m call on e))
+    on
+
+-- from a machine on its place, the calls on the record that shows it give what the machine shows
+pub calls-run : (m : Machine) (calls : List Call) → OnPlace m → callsRun (observe m) calls ≡ machineRun m calls
+unfolding callsRun machineRun
+calls-run m [] on = refl
+calls-run m (call ∷ calls) on =
+    rw (called-observe m call on, calls-run (turn m call) calls (turn-on m call on))
+
+-- place 0 is a place of every list that open does not refuse
+pub start-on : (n k : ℕ) → checkCycles n k ≡ 0 → OnPlace (start n k)
+start-on n k e =
+    let (l, h, l′, h′) = cycles-passed n k e in
+    record { size = (l, h); cycles = (l′, h′); below = positive n k l′ h′ }
+
+-- demand 3, the calls: for all n, k that open does not refuse and every list of calls
+pub calls : (n k : ℕ) → checkCycles n k ≡ 0 → (cs : List Call) → walkRun n k cs ≡ plainRun n k cs
+unfolding opened
+calls n k e cs = rw (e, calls-run (start n k) cs (start-on n k e))

@@ -1,15 +1,16 @@
 -- Document 01's plain machine of demand 3: it holds n, k and a place and nothing else, and moves by the calls alone. These are definitions; nothing is assumed.
-use Prim.Native.Nat.{ℕ, suc, _+_, _-_}
+use mathlib.Core.Path.{_≡_}
+use Prim.Native.Nat.{ℕ, suc, _+_, _-_, _≤_}
 use mathlib.Core.Bool.{cond}
 use mathlib.Core.List.{List, [], _∷_, _++_}
 use lib.Dec.{eqb, leb}
 use lib.ListN.{length, replicate}
 use Rattle.stirling.specs.Refusal.{refuse, unless}
 use Rattle.stirling.specs.Count.{c}
-use Rattle.perm.specs.Permutation.{at}
+use Rattle.perm.specs.Permutation.{at, rotate}
 use Rattle.perm.specs.Array.{position, arrayOf}
 use Rattle.gray.specs.Order.{Row, S}
-use Rattle.gray.specs.Listing.{rowAt}
+use Rattle.gray.specs.Listing.{rowAt, Positions}
 use Rattle.cursor.specs.declared.Cursor.{Cursor}
 use Rattle.cursor.specs.declared.Answer.{Answer}
 use Rattle.cursor.specs.declared.Step.{Step}
@@ -22,6 +23,11 @@ pub record Machine : Type 0 where
 pub data Call : Type 0 where
   forward back show : Call
   jump : ℕ → Call
+
+-- the calls that report three positions
+pub data Steps : Call → Type 0 where
+  onward : Steps forward
+  backward : Steps back
 
 -- filled up with zeros to 20 bytes
 abbrev pub padded : List ℕ → List ℕ
@@ -78,6 +84,13 @@ stepJ old new = position (at new (stepI old new)) old
 abbrev pub stepL : Row → Row → ℕ
 stepL old new = position (at new (stepJ old new)) old
 
+-- what the three positions of a step are: three different ones, i the smallest, with new = old·⟨i,j,l⟩, and no other three are so
+pub record IsStep (n : ℕ) (old new : Row) (i j l : ℕ) : Type 0 where
+  pub three : Positions n i j l
+  pub smallest : (i ≤ j) × (i ≤ l)
+  pub step : new ≡ rotate old i j l
+  pub only : (i′ j′ l′ : ℕ) → Positions n i′ j′ l′ → i′ ≤ j′ → i′ ≤ l′ → new ≡ rotate old i′ j′ l′ → (i′ ≡ i) × (j′ ≡ j) × (l′ ≡ l)
+
 -- a refusal, or 0 for none, and zeros for the rest
 abbrev pub bare : ℕ → Answer
 bare r = record {
@@ -90,13 +103,13 @@ bare r = record {
   array = replicate 20 0;
 }
 
--- the three positions of a step from one machine to the next
-abbrev pub stepped : Machine → Machine → Answer
-stepped m m′ = record {
+-- the three positions of a step from one row to the next
+abbrev pub stepped : Row → Row → Answer
+stepped old new = record {
   refusal = 0;
-  i = stepI (rowOf m) (rowOf m′);
-  j = stepJ (rowOf m) (rowOf m′);
-  l = stepL (rowOf m) (rowOf m′);
+  i = stepI old new;
+  j = stepJ old new;
+  l = stepL old new;
   place = 0;
   perm = replicate 20 0;
   array = replicate 20 0;
@@ -116,8 +129,8 @@ shown m = record {
 
 -- the answer to a call that is not refused: three positions for forward and back, zeros for jump
 abbrev pub given : Machine → Call → Answer
-given m forward = stepped m (moved m (m .place + 1))
-given m back = stepped m (moved m (m .place - 1))
+given m forward = stepped (rowOf m) (rowOf (moved m (m .place + 1)))
+given m back = stepped (rowOf m) (rowOf (moved m (m .place - 1)))
 given m (jump r) = bare 0
 given m show = shown m
 

@@ -1,4 +1,32 @@
 // A cursor that walks through S(n,k): a record handed over by value and handed back.
+ghost use mathlib.Core.Path.{_≡_};
+ghost use mathlib.Core.Bool.{true};
+ghost use Prim.Native.Nat.{_≤_, _<_};
+ghost use lib.ListN.{length, getD, take};
+ghost use Rattle.stirling.specs.Count.{c, checkPlace};
+ghost use Rattle.perm.specs.Lists.{same};
+ghost use Rattle.perm.specs.Permutation.{IsPermutation};
+ghost use Rattle.perm.specs.Array.{position, arrayOf};
+ghost use Rattle.gray.specs.Order.{S};
+ghost use Rattle.gray.specs.Listing.{rowAt, Near};
+ghost use Rattle.cursor.specs.Machine.{padded, observe, rowOf, moved, firstFrom, bare, stepped, forward, back, jump, show};
+ghost use Rattle.cursor.specs.Walk.{machineOf, sound, called, start, opened, decode, decoded, replayed};
+
+// Check 8: a record that is not one that the calls hand back.
+pub const REFUSED_RECORD: u8 = 8;
+
+// Forward at the last place.
+pub const REFUSED_LAST: u8 = 9;
+
+// Back at place 0.
+pub const REFUSED_FIRST: u8 = 10;
+
+// The calls of a list that is replayed; any other number is a show.
+pub const FORWARD: u8 = 1;
+
+pub const BACK: u8 = 2;
+
+pub const JUMP: u8 = 3;
 
 // Document 01's *walk*: n, k, the place, and the permutation and the transposition array that stand there, zero after the n-th byte.
 pub struct Cursor {
@@ -24,4 +52,293 @@ pub struct Answer {
 pub struct Step {
     pub cursor: Cursor,
     pub answer: Answer,
+}
+
+// An answer with a refusal, or 0 for none, and zeros for the rest.
+fn bare_answer(refusal: u8) -> Answer
+    ensures { λ r. ⌜ r ≡ bare refusal ⌝ }
+{
+    Answer {
+        refusal,
+        i: 0,
+        j: 0,
+        l: 0,
+        place: 0,
+        perm: [0u8; 20],
+        array: [0u8; 20],
+    }
+}
+
+// The permutation at a place of S(n,k), filled up with zeros.
+fn row_at(n: u64, k: u64, place: u64) -> [u8; 20]
+    requires { ⌜ checkPlace n k place ≡ 0 ⌝ }
+    ensures { λ r. ⌜ r ≡ padded (rowAt (S n k) place) ⌝ }
+{
+    let size = n as usize;
+    let mut row = [0u8; 20];
+    rank::unrank(n, k, place, &mut row[..size]);
+    row
+}
+
+// The array of the permutation of n in the first bytes, filled up with zeros.
+fn array_of(n: u64, row: [u8; 20]) -> [u8; 20]
+    requires { ⌜ (1 ≤ n) × (n ≤ 20) × IsPermutation n (take n row) ⌝ }
+    ensures { λ r. ⌜ r ≡ padded (arrayOf n (take n row)) ⌝ }
+{
+    let size = n as usize;
+    let mut array = [0u8; 20];
+    perm::to_array(&row[..size], &mut array[..size]);
+    array
+}
+
+// The record that shows the plain machine at a place of S(n,k).
+fn cursor_at(n: u64, k: u64, place: u64) -> Cursor
+    requires { ⌜ checkPlace n k place ≡ 0 ⌝ }
+    ensures { λ r. ⌜ r ≡ observe (moved (start n k) place) ⌝ }
+{
+    let perm = row_at(n, k, place);
+    let array = array_of(n, perm);
+    Cursor {
+        n,
+        k,
+        place,
+        perm,
+        array,
+    }
+}
+
+// Whether two arrays have the same bytes.
+fn equal(a: [u8; 20], b: [u8; 20]) -> bool
+    ensures { λ r. ⌜ r ≡ same a b ⌝ }
+{
+    let mut i = 0;
+    while i < 20 {
+        if a[i] != b[i] {
+            return false;
+        }
+        i += 1;
+    }
+    true
+}
+
+// Whether a record passes check 8: permutation and array are recomputed at its place, and all their bytes compared.
+fn is_sound(w: Cursor) -> bool
+    ensures { λ r. ⌜ r ≡ sound w ⌝ }
+{
+    if stirling::check_place(w.n, w.k, w.place) != 0 {
+        return false;
+    }
+    let right = cursor_at(w.n, w.k, w.place);
+    let perm = w.perm;
+    let right_perm = right.perm;
+    if !equal(perm, right_perm) {
+        return false;
+    }
+    let array = w.array;
+    let right_array = right.array;
+    equal(array, right_array)
+}
+
+// The first position at which two rows of one length differ, or one past them.
+fn first_difference(old: &[u8], new: &[u8]) -> usize
+    requires { ⌜ length (now old) ≡ length (now new) ⌝ }
+    ensures { λ r. ⌜ r ≡ firstFrom 1 (now (old .entry)) (now (new .entry)) ⌝ }
+{
+    let mut i = 0;
+    while i < old.len() {
+        if old[i] != new[i] {
+            return i + 1;
+        }
+        i += 1;
+    }
+    i + 1
+}
+
+// The first position that has a value, or the length.
+fn position_of(v: u8, row: &[u8]) -> usize
+    ensures { λ r. ⌜ r ≡ position v (now (row .entry)) ⌝ }
+{
+    let mut i = 0;
+    while i < row.len() {
+        if row[i] == v {
+            return i + 1;
+        }
+        i += 1;
+    }
+    i
+}
+
+// The three positions of a step between neighbouring rows.
+fn step_between(old: &[u8], new: &[u8]) -> Answer
+    requires { ⌜ IsPermutation (length (now old)) (now old) × Near (length (now old)) (now old) (now new) ⌝ }
+    ensures { λ r. ⌜ r ≡ stepped (now (old .entry)) (now (new .entry)) ⌝ }
+{
+    let i = first_difference(old, new);
+    let j = position_of(new[i - 1], old);
+    let l = position_of(new[j - 1], old);
+    Answer {
+        refusal: 0,
+        i: i as u64,
+        j: j as u64,
+        l: l as u64,
+        place: 0,
+        perm: [0u8; 20],
+        array: [0u8; 20],
+    }
+}
+
+// A refused call: the record as it was, and the refusal.
+fn refused(w: Cursor, refusal: u8) -> Step
+    ensures { λ r. ⌜ r ≡ record { cursor = w; answer = bare refusal } ⌝ }
+{
+    Step {
+        cursor: w,
+        answer: bare_answer(refusal),
+    }
+}
+
+// A step to a neighbouring place.
+fn step_to(w: Cursor, place: u64) -> Step
+    requires { ⌜ (sound w ≡ true) × (place < c (w .n) (w .k)) × Near (w .n) (rowOf (machineOf w)) (rowOf (moved (machineOf w) place)) ⌝ }
+    ensures { λ r. ⌜ r ≡ record {
+      cursor = observe (moved (machineOf w) place);
+      answer = stepped (rowOf (machineOf w)) (rowOf (moved (machineOf w) place));
+    } ⌝ }
+{
+    let size = w.n as usize;
+    let cursor = cursor_at(w.n, w.k, place);
+    let old = w.perm;
+    let new = cursor.perm;
+    let answer = step_between(&old[..size], &new[..size]);
+    Step { cursor, answer }
+}
+
+impl Cursor {
+    // A walk from place 0 of S(n,k). Refusals 1 and 2; a refused open hands back a walk of zeros.
+    pub fn open(n: u64, k: u64) -> Step
+        ensures { λ r. ⌜ r ≡ opened n k ⌝ }
+    {
+        let refusal = stirling::check_cycles(n, k);
+        if refusal != 0 {
+            return Step {
+                cursor: Cursor {
+                    n: 0,
+                    k: 0,
+                    place: 0,
+                    perm: [0u8; 20],
+                    array: [0u8; 20],
+                },
+                answer: bare_answer(refusal),
+            };
+        }
+        Step {
+            cursor: cursor_at(n, k, 0),
+            answer: bare_answer(0),
+        }
+    }
+
+    // To the next place, with the three positions of the step. Refusals 8 and 9.
+    pub fn forward(self) -> Step
+        ensures { λ r. ⌜ r ≡ called self forward ⌝ }
+    {
+        if !is_sound(self) {
+            return refused(self, REFUSED_RECORD);
+        }
+        let next = self.place + 1;
+        if next >= stirling::lookup(self.n, self.k) {
+            return refused(self, REFUSED_LAST);
+        }
+        step_to(self, next)
+    }
+
+    // To the place before, with the three positions of the step. Refusals 8 and 10.
+    pub fn back(self) -> Step
+        ensures { λ r. ⌜ r ≡ called self back ⌝ }
+    {
+        if !is_sound(self) {
+            return refused(self, REFUSED_RECORD);
+        }
+        if self.place == 0 {
+            return refused(self, REFUSED_FIRST);
+        }
+        step_to(self, self.place - 1)
+    }
+
+    // To any place. Refusals 8 and 3.
+    pub fn jump(self, place: u64) -> Step
+        ensures { λ r. ⌜ r ≡ called self (jump place) ⌝ }
+    {
+        if !is_sound(self) {
+            return refused(self, REFUSED_RECORD);
+        }
+        if place >= stirling::lookup(self.n, self.k) {
+            return refused(self, stirling::REFUSED_PLACE);
+        }
+        let cursor = cursor_at(self.n, self.k, place);
+        let answer = bare_answer(0);
+        Step { cursor, answer }
+    }
+
+    // The place, the permutation and the array. Refusal 8.
+    pub fn show(self) -> Step
+        ensures { λ r. ⌜ r ≡ called self show ⌝ }
+    {
+        if !is_sound(self) {
+            return refused(self, REFUSED_RECORD);
+        }
+        let perm = self.perm;
+        let array = self.array;
+        let answer = Answer {
+            refusal: 0,
+            i: 0,
+            j: 0,
+            l: 0,
+            place: self.place,
+            perm,
+            array,
+        };
+        Step {
+            cursor: self,
+            answer,
+        }
+    }
+}
+
+// The call that a kind and a place name.
+fn make_call(w: Cursor, kind: u8, place: u64) -> Step
+    ensures { λ r. ⌜ r ≡ called w (decode kind place) ⌝ }
+{
+    if kind == FORWARD {
+        return w.forward();
+    }
+    if kind == BACK {
+        return w.back();
+    }
+    if kind == JUMP {
+        return w.jump(place);
+    }
+    w.show()
+}
+
+// The place that goes with a call, or 0.
+fn place_of(places: &[u64], t: usize) -> u64
+    ensures { λ r. ⌜ r ≡ getD (now (places .entry)) t 0 ⌝ }
+{
+    if t < places.len() { places[t] } else { 0 }
+}
+
+// An open and then a list of calls, each on the record that the one before handed back: what the last of them gives. A refused open ends it.
+pub fn replay(n: u64, k: u64, kinds: &[u8], places: &[u64]) -> Step
+    ensures { λ r. ⌜ r ≡ replayed n k (decoded (now (kinds .entry)) (now (places .entry))) ⌝ }
+{
+    let mut step = Cursor::open(n, k);
+    if step.answer.refusal != 0 {
+        return step;
+    }
+    let mut t = 0;
+    while t < kinds.len() {
+        step = make_call(step.cursor, kinds[t], place_of(places, t));
+        t += 1;
+    }
+    step
 }

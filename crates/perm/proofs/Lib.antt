@@ -5,6 +5,7 @@ pub mod Pigeonhole
 pub mod Cycles
 pub mod Exchange
 pub mod Arrays
+pub mod ArrayOf
 pub mod Parity
 pub mod Apart
 pub mod Checked

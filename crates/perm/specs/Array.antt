@@ -33,7 +33,7 @@ position v [] = 0
 position v (x ∷ xs) = cond (eqb v x) 1 (suc (position v xs))
 
 -- the array of a permutation of n: pn is the position of value n, and the other entries are the array of the first n−1 values once that value is
--- exchanged to position n. The law `array-of` (proofs/Arrays.antt): it is the one array of s
+-- exchanged to position n. The law `array-of` (proofs/ArrayOf.antt): it is the one array of s
 unfoldable pub arrayOf : ℕ → List ℕ → List ℕ
 arrayOf zero s = []
 arrayOf (suc m) s = arrayOf m (take m (exchange (position (suc m) s) (suc m) s)) ++ (position (suc m) s ∷ [])

@@ -1,0 +1,60 @@
+-- What a call on a record gives, one law for each outcome: the record fails check 8, the call is refused, or it moves. Assumes nothing.
+use mathlib.Core.Path.{_≡_, refl, sym, ap, _∙_}
+use mathlib.Core.Bool.{Bool, true, false, not}
+use Prim.Native.Nat.{ℕ, suc, _^_, _<_}
+use borrow.Author.Tests.{not-true, not-false}
+use Rattle.stirling.specs.Count.{c, lookupOf}
+use Rattle.stirling.proofs.Counts.{looked-up, fits}
+use Rattle.cursor.specs.Machine.{Call, show, observe, refusalOf, destination, moved, turn, bare, given, answered}
+use Rattle.cursor.specs.Walk.{machineOf, sound, called}
+use Rattle.cursor.specs.declared.Cursor.{Cursor}
+use Rattle.cursor.specs.declared.Answer.{Answer}
+use Rattle.cursor.proofs.Sound.{sound-on, sound-shows}
+
+-- what the test `!is_sound(w)` says: taken, the record fails check 8
+pub fails : {found right : Bool} → found ≡ right → not found ≡ true → right ≡ false
+fails {found} e t = sym e ∙ not-true found t
+
+-- left, it passes
+pub passes : {found right : Bool} → found ≡ right → not found ≡ false → right ≡ true
+passes {found} e t = sym e ∙ not-false found t
+
+module _ (w : Cursor) (call : Call) where
+  -- a record that fails check 8 comes back as it was
+  pub called-unsound : sound w ≡ false → called w call ≡ record { cursor = w; answer = bare 8 }
+  unfolding called
+  called-unsound e = rw e
+
+  -- a refused call moves nothing
+  pub called-refused : (r : ℕ) → sound w ≡ true → refusalOf (machineOf w) call ≡ suc r → called w call ≡ record { cursor = w; answer = bare (suc r) }
+  unfolding called turn answered
+  called-refused r e f = rw (e, f) (ap (λ (v : Cursor). record { cursor = v; answer = bare (suc r) }) (sym (sound-shows w e)))
+
+  -- a call that is not refused moves the machine
+  pub called-moves : sound w ≡ true → refusalOf (machineOf w) call ≡ 0
+      → called w call ≡ record { cursor = observe (moved (machineOf w) (destination (machineOf w) call)); answer = given (machineOf w) call }
+  unfolding called turn answered
+  called-moves e f = rw (e, f)
+
+-- place, permutation and array as a record holds them, and zeros for the rest
+abbrev pub held : Cursor → Answer
+held w = record {
+  refusal = 0;
+  i = 0;
+  j = 0;
+  l = 0;
+  place = w .place;
+  perm = w .perm;
+  array = w .array;
+}
+
+-- show hands out what a sound record holds
+pub called-shows : (w : Cursor) → sound w ≡ true → called w show ≡ record { cursor = w; answer = held w }
+unfolding observe
+called-shows w e = called-moves w show e refl ∙ ap (λ (v : Cursor). record { cursor = v; answer = held v }) (sym (sound-shows w e))
+
+-- the count that a sound record's place is below, as the table has it
+pub sound-count : (w : Cursor) → sound w ≡ true → (lookupOf (w .n) (w .k) ≡ c (w .n) (w .k)) × (w .place < c (w .n) (w .k)) × (c (w .n) (w .k) < 2 ^ 64)
+sound-count w e =
+    let on = sound-on w e in
+    (looked-up (w .n) (w .k) (on .size .1), on .below, fits (w .n) (w .k) (on .size .1))

@@ -1,0 +1,81 @@
+-- Rows filled up with zeros to 20 bytes: what the calls of crates rank and perm write to the front of 20 zeros. Assumes nothing.
+use mathlib.Core.Path.{_≡_, _∙_}
+use mathlib.Core.List.{List, _++_}
+use Prim.Native.Nat.{ℕ, zero, suc, _-_, _≤_}
+use native.Mathlib.Omega.{arith}
+use lib.ListN.{length, take, drop, replicate, length-append}
+use lib.Seq.{take-at, length-take-le}
+use borrow.Author.Tests.{eq-eqb}
+use Rattle.stirling.specs.Count.{checkPlace}
+use Rattle.stirling.proofs.Counts.{size-passes, place-passed}
+use Rattle.perm.specs.Permutation.{IsPermutation}
+use Rattle.perm.specs.Array.{arrayOf}
+use Rattle.perm.specs.Checks.{checkLent, ToArray}
+use Rattle.perm.proofs.Checked.{passes-values, passes-twice}
+use Rattle.perm.proofs.ArrayOf.{is-array-of}
+use Rattle.gray.specs.Order.{S}
+use Rattle.gray.specs.Listing.{rowAt}
+use Rattle.rank.specs.Place.{Unranked}
+use Rattle.cursor.specs.Machine.{Machine, padded, rowOf, observe, moved}
+use Rattle.cursor.specs.Walk.{start}
+use Rattle.cursor.proofs.Calls.{OnPlace}
+use Rattle.cursor.proofs.Steps.{row-permutation}
+
+-- zeros without the first of them
+drop-zeros : (m n : ℕ) → n ≤ m → drop {A = ℕ} n (replicate m 0) ≡ replicate (m - n) 0
+drop-zeros m zero h = let e : m - 0 ≡ m = omega arith in rw e
+drop-zeros zero (suc n) h = absurd (omega arith)
+drop-zeros (suc m) (suc n) h = let e : suc m - suc n ≡ m - n = omega arith in rw e (drop-zeros m n (omega arith))
+
+-- the part of 20 zeros that is lent
+pub length-front : {n : ℕ} → n ≤ 20 → length (take {A = ℕ} n (replicate 20 0)) ≡ n
+length-front {n} h = length-take-le n (replicate 20 0) h
+
+-- n bytes written there are filled up with zeros
+front-padded : {n : ℕ} (s : List ℕ) → length s ≡ n → n ≤ 20 → s ++ drop n (replicate 20 0) ≡ padded s
+front-padded {n} s e h = rw (drop-zeros 20 n h, e)
+
+-- and are its first n
+pub take-padded : {n : ℕ} (s : List ℕ) → length s ≡ n → take n (padded s) ≡ s
+take-padded {n} s e = take-at s (replicate (20 - length s) 0) n e
+
+-- the machine at a place that is not refused is on it
+pub placed : (n k place : ℕ) → checkPlace n k place ≡ 0 → OnPlace (moved (start n k) place)
+placed n k place e =
+    let (l, h, l′, h′, below) = place-passed n k place e in
+    record { size = (l, h); cycles = (l′, h′); below = below }
+
+-- and its row is a permutation
+pub row-placed : (n k place : ℕ) → checkPlace n k place ≡ 0 → IsPermutation n (rowAt (S n k) place)
+row-placed n k place e = row-permutation (moved (start n k) place) (placed n k place e)
+
+-- the record that shows a machine on its place holds at least n bytes of permutation
+pub length-shown : (m : Machine) → OnPlace m → m .n ≤ length (observe m .perm)
+unfolding observe
+length-shown m on = omega (arith, row-permutation m on .size, length-append (rowOf m) (replicate (20 - length (rowOf m)) 0))
+
+-- and the first n are its row
+pub take-shown : (m : Machine) → OnPlace m → take (m .n) (observe m .perm) ≡ rowOf m
+unfolding observe
+take-shown m on = take-padded (rowOf m) (row-permutation m on .size)
+
+-- check 5 passes on a slice of n bytes
+lent-passes : {n : ℕ} (before : List ℕ) → length before ≡ n → checkLent n (length before) ≡ 0
+lent-passes {n} before e = rw (eq-eqb (length before) n e)
+
+-- the row that is written to the front
+pub row-padded : {n k place r : ℕ} {before after : List ℕ} → checkPlace n k place ≡ 0 → length before ≡ n → Unranked n k place before r after
+    → after ++ drop n (replicate 20 0) ≡ padded (rowAt (S n k) place)
+row-padded {n} {k} {place} {r} {before} e z u =
+    let zero : r ≡ 0 = rw (e, lent-passes before z) at (u .refusal) in
+    rw (u .written zero) (front-padded (rowAt (S n k) place) (row-placed n k place e .size) (placed n k place e .size .1))
+
+-- the array that is written to the front
+pub array-padded : {n r : ℕ} {s before after : List ℕ} → 1 ≤ n → n ≤ 20 → IsPermutation n s → length before ≡ n → ToArray s before r after
+    → after ++ drop n (replicate 20 0) ≡ padded (arrayOf n s)
+array-padded {n} {r} {s} {before} {after} l h p z t =
+    let y = p .size in
+    let size = size-passes (length s) (omega arith) (omega arith) in
+    let zero : r ≡ 0 = rw (size, lent-passes {n = length s} before (omega arith), passes-values p, passes-twice p) at (t .refusal) in
+    let a = t .written zero in
+    rw (← is-array-of a p) (front-padded after (a .array .size ∙ p .size) h)
