@@ -1,0 +1,155 @@
+// Pages through lists by a cursor and prints a line for each place met: n, k and the place, the permutation, its transposition array, and the three
+// positions of the step that the cursor makes from there. First every list for n up to 7, forward; then every list for n up to 5, back from its end; then
+// jumps about the lists for n = 6; then a jump to the end of each list for n from 8 to 20 and one to its beginning. `stdout` comes from another author's
+// generator.
+use cursor::Answer;
+use cursor::Cursor;
+ghost use Prim.Native.Nat.{_≤_};
+
+// The first n bytes, each after a space.
+fn print_first(list: [u8; 20], n: u64) {
+    if n <= 20 {
+        let size = n as usize;
+        print::bytes(&list[..size]);
+    }
+}
+
+// The line of a cursor, with a step's three positions.
+fn print_line(w: Cursor, to: Answer) {
+    let shown = w.show();
+    let perm = shown.answer.perm;
+    let array = shown.answer.array;
+    print::number(w.n);
+    print::text(b" ");
+    print::number(w.k);
+    print::text(b" ");
+    print::number(shown.answer.place);
+    print::text(b" |");
+    print_first(perm, w.n);
+    print::text(b" |");
+    print_first(array, w.n);
+    print::text(b" | ");
+    print::number(to.i);
+    print::text(b" ");
+    print::number(to.j);
+    print::text(b" ");
+    print::number(to.l);
+    print::text(b"\n");
+}
+
+// The line of a cursor, and the cursor one step forward.
+fn print_forward(w: Cursor) -> Cursor {
+    let step = w.forward();
+    print_line(w, step.answer);
+    step.cursor
+}
+
+// The line of a cursor, and the cursor one step back.
+fn print_back(w: Cursor) -> Cursor {
+    let step = w.back();
+    print_line(w, step.answer);
+    step.cursor
+}
+
+// Forward through S(n,k).
+fn page_forward(n: u64, k: u64) {
+    let rows = stirling::lookup(n, k);
+    let mut w = Cursor::open(n, k).cursor;
+    let mut turn = 0;
+    while turn < rows {
+        w = print_forward(w);
+        turn += 1;
+    }
+}
+
+// Back through S(n,k) from its end.
+fn page_back(n: u64, k: u64)
+    requires { ⌜ n ≤ 20 ⌝ }
+{
+    let rows = stirling::lookup(n, k);
+    let mut w = Cursor::open(n, k).cursor;
+    if rows > 0 {
+        w = w.jump(rows - 1).cursor;
+    }
+    let mut turn = 0;
+    while turn < rows {
+        w = print_back(w);
+        turn += 1;
+    }
+}
+
+// A jump about a list of so many rows.
+fn jump_once(w: Cursor, rows: u64, turn: u64)
+    requires { ⌜ turn ≤ 40 ⌝ }
+{
+    if turn < rows {
+        print_forward(w.jump((3 + 7 * turn) % rows).cursor);
+    }
+}
+
+// At most 40 jumps about S(n,k).
+fn jump_about(n: u64, k: u64) {
+    let rows = stirling::lookup(n, k);
+    let w = Cursor::open(n, k).cursor;
+    let mut turn = 0;
+    while turn < 40 {
+        jump_once(w, rows, turn);
+        turn += 1;
+    }
+}
+
+// A jump to the end of S(n,k) and one to its beginning.
+fn jump_to_ends(n: u64, k: u64) {
+    let w = Cursor::open(n, k).cursor;
+    let rows = stirling::lookup(n, k);
+    if rows > 0 {
+        let end = w.jump(rows - 1).cursor;
+        print_forward(end);
+        print_forward(end.jump(0).cursor);
+    }
+}
+
+// What is done at n and k: 1 forward, 2 back, 3 jumps about, any other the ends.
+fn page(kind: u8, n: u64, k: u64)
+    requires { ⌜ n ≤ 20 ⌝ }
+{
+    if kind == 1 {
+        return page_forward(n, k);
+    }
+    if kind == 2 {
+        return page_back(n, k);
+    }
+    if kind == 3 {
+        return jump_about(n, k);
+    }
+    jump_to_ends(n, k);
+}
+
+// The same for all k of n.
+fn pages(kind: u8, n: u64)
+    requires { ⌜ n ≤ 20 ⌝ }
+{
+    let mut k = 0;
+    while k < n {
+        k += 1;
+        page(kind, n, k);
+    }
+}
+
+// The same for all n from first to last.
+fn pages_from(kind: u8, first: u64, last: u64)
+    requires { ⌜ last ≤ 20 ⌝ }
+{
+    let mut n = first;
+    while n <= last {
+        pages(kind, n);
+        n += 1;
+    }
+}
+
+fn main() {
+    pages_from(1, 1, 7);
+    pages_from(2, 1, 5);
+    pages_from(3, 6, 6);
+    pages_from(4, 8, 20);
+}

@@ -1,0 +1,27 @@
+// Numbers and bytes on standard output, for the test programs.
+use libc::STDOUT_FILENO;
+
+// A text as it is.
+pub fn text(bytes: &[u8]) {
+    io::write_all(STDOUT_FILENO, bytes);
+}
+
+// A number in base ten.
+pub fn number(x: u64) {
+    io::print_decimal(STDOUT_FILENO, x);
+}
+
+// A byte in base ten, after a space.
+pub fn byte(b: u8) {
+    text(b" ");
+    number(b as u64);
+}
+
+// Each byte in base ten, after a space.
+pub fn bytes(list: &[u8]) {
+    let mut i = 0;
+    while i < list.len() {
+        byte(list[i]);
+        i += 1;
+    }
+}
