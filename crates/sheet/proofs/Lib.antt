@@ -1,1 +1,10 @@
 pub mod Example
+pub mod Tests
+pub mod Writing
+pub mod Decimal
+pub mod Reading
+pub mod AskedLine
+pub mod Lines
+pub mod Capacity
+pub mod Outcome
+pub mod Grammar

@@ -1,3 +1,5 @@
 pub mod Text
 pub mod Asked
+pub mod Found
 pub mod Sheet
+pub mod Written

@@ -6,7 +6,7 @@ use Rattle.stirling.specs.Refusal.{unless}
 use Rattle.perm.specs.Lists.{positions}
 use Rattle.gray.specs.Order.{Row, S}
 use Rattle.rank.specs.Place.{checkRowCount}
-use Rattle.sheet.specs.Text.{SPACE, LF, placeName, roadName, refusedName, decimal}
+use Rattle.sheet.specs.Text.{SPACE, LF, placeName, columnName, refusedName, decimal}
 use Rattle.sheet.specs.Asked.{asked}
 use Rattle.sheet.specs.declared.Asked.{Asked}
 use Rattle.sheet.specs.declared.Asked.the-variants.{Rows, Unreadable}
@@ -14,7 +14,7 @@ use Rattle.sheet.specs.declared.Asked.the-variants.{Rows, Unreadable}
 -- for each position, a space, `road` and its number
 unfoldable pub names : List ℕ → List ℕ
 names [] = []
-names (i ∷ is) = SPACE ∷ (roadName ++ decimal i ++ names is)
+names (i ∷ is) = SPACE ∷ (columnName ++ decimal i ++ names is)
 
 -- the line of names
 abbrev pub nameLine : ℕ → List ℕ

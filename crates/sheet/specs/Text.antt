@@ -23,8 +23,8 @@ abbrev pub placeName : List ℕ
 placeName = 112 ∷ 108 ∷ 97 ∷ 99 ∷ 101 ∷ []
 
 -- `road`
-abbrev pub roadName : List ℕ
-roadName = 114 ∷ 111 ∷ 97 ∷ 100 ∷ []
+abbrev pub columnName : List ℕ
+columnName = 114 ∷ 111 ∷ 97 ∷ 100 ∷ []
 
 -- `refused`
 abbrev pub refusedName : List ℕ

@@ -1,0 +1,34 @@
+-- What the call `answer` gives, for every text and every lent slice, and what the writers inside it give. These are definitions; nothing is assumed.
+use mathlib.Core.Path.{_≡_}
+use Prim.Native.Nat.{ℕ, _+_, _*_, _≤_, _<_}
+use mathlib.Core.List.{List, [], _∷_, _++_}
+use lib.ListN.{length, drop}
+use lib.Seq.{sets}
+use Rattle.gray.specs.Order.{Row}
+use Rattle.sheet.specs.Text.{LF, decimal}
+use Rattle.sheet.specs.Sheet.{values, answer}
+
+-- a slice of so many bytes suffices for the answer to any text (the law `answer-fits`, proofs/Capacity.antt): a line of names of at most
+-- 5 + 20×7 + 1 bytes, and at most 1,000 rows of at most 20 + 20×3 + 1 bytes
+abbrev pub CAPACITY : ℕ
+CAPACITY = 146 + 1000 * 81
+
+-- the answer to a text at the beginning of a slice that held `before` and then holds `after`, and its length r. In a slice that is too short
+-- for some answer nothing is written
+pub record Answered (text before : List ℕ) (r : ℕ) (after : List ℕ) : Type 0 where
+  pub size : CAPACITY ≤ length before → r ≡ length (answer text)
+  pub written : CAPACITY ≤ length before → after ≡ answer text ++ drop r before
+  pub kept : length before < CAPACITY → (r ≡ 0) × (after ≡ before)
+
+-- there is room for `new` from index `at` on in a slice that holds `before`
+pub record Room (before : List ℕ) (at : ℕ) (new : List ℕ) : Type 0 where
+  pub fits : at + length new ≤ length before
+
+-- `new` is written from index `at` on into a slice that held `before` and then holds `after`; r is the index after it
+pub record Wrote (before : List ℕ) (at : ℕ) (new : List ℕ) (r : ℕ) (after : List ℕ) : Type 0 where
+  pub end : r ≡ at + length new
+  pub bytes : after ≡ sets before at new
+
+-- the line of one row: its place and its values
+abbrev pub rowLine : ℕ → Row → List ℕ
+rowLine place row = decimal place ++ (values row ++ (LF ∷ []))
