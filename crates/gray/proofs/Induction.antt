@@ -16,8 +16,8 @@ use Rattle.gray.proofs.Joined.{S-blocks}
 use Rattle.gray.proofs.Exchange.{_·_, same, swap, swap-sym}
 use Rattle.gray.proofs.Step.{Step, star, reads-none, step-twice}
 use Rattle.gray.proofs.Run.{Run, single}
-use Rattle.gray.proofs.Adjacent.{less-one, relation-a, relation-a4, relation-a3, relation-a2, relation-b}
-use Rattle.gray.proofs.Adjacent.{relation-c3, relation-c, relation-d, relation-e}
+use Rattle.gray.proofs.Chained.{less-one, relation-a, relation-a4, relation-a3, relation-a2, relation-b}
+use Rattle.gray.proofs.Chained.{relation-c3, relation-c, relation-d, relation-e}
 use Rattle.gray.proofs.Ends.{first, place, last, first-next, last-next, first-one, first-two, last-one, last-two}
 use Rattle.gray.proofs.Ends.{place-two, first-less, last-less, step-turn}
 

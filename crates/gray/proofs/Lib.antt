@@ -1,7 +1,7 @@
 pub mod Which
 pub mod Joined
-pub mod BlockAt
-pub mod Blocks
+pub mod Indexed
+pub mod InPlace
 pub mod Sum
 pub mod Counting
 pub mod Same
@@ -9,7 +9,7 @@ pub mod Once
 pub mod Exchange
 pub mod Step
 pub mod Run
-pub mod Adjacent
+pub mod Chained
 pub mod Ends
 pub mod Induction
 pub mod Neighbours

@@ -3,14 +3,17 @@ use Prim.Native.Nat.{ℕ, suc, _+_, _-_, _≤_, _<_}
 use native.Mathlib.Omega.{arith}
 use native.Mathlib.Numerals.{add-one}
 use native.Mathlib.Decide.{decLe}
-use mathlib.Core.Path.{_≡_, refl, sym, _∙_}
+use mathlib.Core.Path.{_≡_, refl, sym, ap, _∙_}
 use mathlib.Core.List.{List, [], _∷_, _++_, append-assoc, append-nil}
-use lib.ListN.{length, getD, take, drop, set, length-set, List·getD-append}
-use lib.Seq.{take-length, drop-length, take-set-le, take-set-lt, take-take, drop-set-lt, drop-cons, getD-set-same, getD-take, length-take-le, set-getD, set-set, set-append-left, getD-at, take-at, take-suc, take-suc-set, take-all}
+use borrow.Table.Steps.{cases}
+use borrow.Author.Tests.{eqb-true, eqb-false}
+use lib.Dec.{eqb}
+use lib.ListN.{length, getD, take, drop, set, replicate, length-set, List·getD-append}
+use lib.Seq.{take-length, drop-length, take-set-le, take-set-lt, take-take, drop-set-lt, drop-cons, getD-set-same, getD-set-other, getD-take, length-take-le, set-getD, set-set, set-append-left, getD-at, take-at, take-suc, take-suc-set, take-all}
 use Rattle.perm.specs.Lists.{range}
 use Rattle.perm.specs.Permutation.{IsPermutation, at, extend, insert}
 use Rattle.perm.specs.Array.{IsArray, IsArrayOf, product, partial}
-use Rattle.perm.proofs.Values.{injective, at-suc}
+use Rattle.perm.proofs.Values.{in-range, injective, onto, at-suc}
 use Rattle.perm.proofs.Split.{Split, extended, inserted, split}
 use Rattle.perm.proofs.Arrays.{product-extend, product-insert, array-append}
 
@@ -19,6 +22,10 @@ same-index : {n : ℕ} {s : List ℕ} → IsPermutation n s → (i j : ℕ) → 
 same-index {s = s} p i j hi hj e =
     let f = injective p (suc i) (suc j) (omega arith) (omega arith) (omega arith) (omega arith) (at-suc s i ∙ e ∙ sym (at-suc s j)) in
     omega arith
+
+-- the value at an index is 1 to n
+pub value-bound : {n : ℕ} {s : List ℕ} → IsPermutation n s → (i : ℕ) → i < n → (1 ≤ getD s i 0) × (getD s i 0 ≤ n)
+value-bound {s = s} p i h = rw at-suc at (in-range p (suc i) (omega arith) h)
 
 -- the entry at index m
 pub entry-bound : {a : List ℕ} → IsArray (length a) a → (m : ℕ) → m < length a → (1 ≤ getD a m 0) × (getD a m 0 ≤ suc m)
@@ -129,6 +136,86 @@ left-step m j l h e = let k : m ≡ suc (m - 1) = omega arith in rw add-one (ste
 pub left-none : {s out : List ℕ} → Left s out 0 → IsArrayOf s out
 unfolding product partial range
 left-none l = l .entries [] (record { array = record { size = refl; bound = λ i h k. omega arith }; equal = refl })
+
+-- what the way to the array looks up: the index of each of the first m values, by the value
+pub record Indexed (s index : List ℕ) (m : ℕ) : Type 0 where
+  pub size : length index ≡ 21
+  pub index-of : (j : ℕ) → j < m → getD index (getD s j 0) 0 ≡ j
+
+-- at first no value has its index
+pub indexed-none : (s : List ℕ) → Indexed s (replicate 21 0) 0
+indexed-none s = record { size = refl; index-of = λ j h. absurd (omega arith) }
+
+-- the value v gets the index i, and the value x at another index j keeps its own
+index-set : (index : List ℕ) (v i x j : ℕ) → v < length index → (j ≡ i → x ≡ v) → ((j ≡ i → ⊥) → (x ≡ v → ⊥) × (getD index x 0 ≡ j)) → getD (set index v i) x 0 ≡ j
+index-set index v i x j h here other =
+    cases
+    (eqb j i)
+    (λ t. let e = eqb-true j i t in rw (here e) (getD-set-same index v i 0 h ∙ sym e))
+    (λ f. let o = other (eqb-false j i f) in getD-set-other index v x i 0 (o .0) ∙ o .1)
+
+-- the value at index i has its index next
+pub indexed-step : {s index : List ℕ} (i v : ℕ) → length s ≤ 20 → IsPermutation (length s) s → i < length s → v ≡ getD s i 0 → Indexed s index i
+    → Indexed s (set index v i) (i + 1)
+indexed-step {s = s} {index = index} i v k p h e x = record { size = simp length-set (x .size); index-of = next }
+  where
+    next : (j : ℕ) → j < i + 1 → getD (set index v i) (getD s j 0) 0 ≡ j
+    next j l =
+        index-set
+        index
+        v
+        i
+        (getD s j 0)
+        j
+        (omega (arith, x .size, value-bound p i h))
+        (λ q. rw q (sym e))
+        (λ d. (λ q. d (same-index p j i (omega arith) h (q ∙ e)), x .index-of j (omega arith)))
+
+-- the first m values are a permutation of m, and have their indices
+module _ {out index : List ℕ} (m : ℕ) (p : IsPermutation m (take m out)) (x : Indexed out index m) where
+  -- the value m is found
+  pub index-found : 0 < m → (getD index m 0 < m) × (getD out (getD index m 0) 0 ≡ m)
+  index-found h =
+      let t = onto p m h (omega arith) in
+      let j = t .0 - 1 in
+      let there : getD out j 0 ≡ m = sym (getD-take m out j 0 (omega arith)) ∙ t .3 in
+      let e : getD index m 0 ≡ j = ap (λ (v : ℕ). getD index v 0) (sym there) ∙ x .index-of j (omega arith) in
+      (omega arith, rw e there)
+
+  -- the last value is at most m
+  pub last-bound : 0 < m → getD out (m - 1) 0 ≤ m
+  last-bound h = omega (arith, value-bound p (m - 1) (omega arith), getD-take m out (m - 1) 0 (omega arith))
+
+  -- the last value v moves to index i, and so has its index: the first m - 1 have theirs
+  pub indexed-move : (i v : ℕ) → m ≤ length out → length out ≤ 20 → i < m → v ≡ getD out (m - 1) 0
+      → Indexed (set (set out i (getD out (m - 1) 0)) (m - 1) (i + 1)) (set index v i) (m - 1)
+  indexed-move i v b k h e = record { size = simp length-set (x .size); index-of = next }
+    where
+      y : ℕ
+      y = getD out (m - 1) 0
+
+      after : List ℕ
+      after = set (set out i y) (m - 1) (i + 1)
+
+      front : (j : ℕ) → j < m - 1 → getD after j 0 ≡ getD (set out i y) j 0
+      front j l = getD-set-other (set out i y) (m - 1) j (i + 1) 0 (omega arith)
+
+      apart : (j : ℕ) → j < m - 1 → getD out j 0 ≡ v → ⊥
+      apart j l q =
+          let f = same-index p j (m - 1) (omega arith) (omega arith) (getD-take m out j 0 (omega arith) ∙ q ∙ e ∙ sym (getD-take m out (m - 1) 0 (omega arith))) in
+          omega arith
+
+      next : (j : ℕ) → j < m - 1 → getD (set index v i) (getD after j 0) 0 ≡ j
+      next j l =
+          index-set
+          index
+          v
+          i
+          (getD after j 0)
+          j
+          (omega (arith, x .size, last-bound (omega arith)))
+          (λ q. front j l ∙ rw q (getD-set-same out i y 0 (omega arith)) ∙ sym e)
+          (λ d. rw (front j l, getD-set-other out i j y 0 d) (apart j l, x .index-of j (omega arith)))
 
 -- from an array a to its permutation, from the first entry up: the first m of `out` are the product of the first m entries
 pub record Made (a out : List ℕ) (m : ℕ) : Type 0 where

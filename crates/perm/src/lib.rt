@@ -1,11 +1,9 @@
 // Permutations and their transposition arrays, as byte slices: the checks 5, 6 and 7, and the calls from one to the other.
 ghost use mathlib.Core.Path.{_≡_};
-ghost use Prim.Native.Nat.{_≤_, _<_};
-ghost use lib.Dec.{eqb};
+ghost use Prim.Native.Nat.{ℕ, _≤_, _<_};
 ghost use lib.ListN.{length, getD};
 ghost use Rattle.stirling.specs.Refusal.{within, _then_};
 ghost use Rattle.stirling.specs.Count.{checkSize};
-ghost use Rattle.perm.specs.Lists.{tally};
 ghost use Rattle.perm.specs.Permutation.{IsPermutation};
 ghost use Rattle.perm.specs.Array.{IsArray, IsArrayOf, product};
 ghost use Rattle.perm.specs.Checks.{checkLent, checkValues, checkTwice, checkEntries, checkPermutation, ToArray, FromArray};
@@ -31,21 +29,6 @@ fn wide(x: u8) -> usize
     x as usize
 }
 
-// How often the value v occurs.
-fn occurrences(s: &[u8], v: usize) -> usize
-    ensures { λ r. ⌜ r ≡ tally (eqb v) (now (s .entry)) ⌝ }
-{
-    let mut count: usize = 0;
-    let mut i = 0;
-    while i < s.len() {
-        if wide(s[i]) == v {
-            count += 1;
-        }
-        i += 1;
-    }
-    count
-}
-
 // Check 6 on a permutation: REFUSED_VALUE if some value is not 1 to n.
 fn check_values(s: &[u8]) -> u8
     ensures { λ r. ⌜ r ≡ checkValues (now (s .entry)) ⌝ }
@@ -60,15 +43,19 @@ fn check_values(s: &[u8]) -> u8
     0
 }
 
-// Check 7: REFUSED_TWICE if some value of 1 to n occurs more than once.
+// Check 7, where check 6 does not refuse: REFUSED_TWICE if some value occurs more than once. Each value has a flag that it was met.
 fn check_twice(s: &[u8]) -> u8
+    requires { ⌜ (length (now s) ≤ 20) × (checkValues (now s) ≡ 0) ⌝ }
     ensures { λ r. ⌜ r ≡ checkTwice (now (s .entry)) ⌝ }
 {
+    let mut met = [false; 21];
     let mut i = 0;
     while i < s.len() {
-        if 1 < occurrences(s, i + 1) {
+        let v = wide(s[i]);
+        if met[v] {
             return REFUSED_TWICE;
         }
+        met[v] = true;
         i += 1;
     }
     0
@@ -90,6 +77,7 @@ fn check_entries(a: &[u8]) -> u8
 
 // The checks 6 and 7 on a permutation, all of 6 before any of 7.
 fn check_contents(s: &[u8]) -> u8
+    requires { ⌜ length (now s) ≤ 20 ⌝ }
     ensures { λ r. ⌜ r ≡ checkValues (now (s .entry)) then checkTwice (now (s .entry)) ⌝ }
 {
     let values = check_values(s);
@@ -124,43 +112,36 @@ fn check_lengths(read: usize, lent: usize) -> u8
     0
 }
 
-// The bytes of s, written to a slice of its length.
-fn copy(s: &[u8], out: &mut [u8])
-    requires { ⌜ length (now out) ≡ length (now s) ⌝ }
-    ensures { λ r. ⌜ now (out .exit) ≡ now (s .entry) ⌝ }
+// The permutation s, written to a slice of its length. Gives the index of each value, by the value.
+fn copy_indexed(s: &[u8], out: &mut [u8]) -> [u8; 21]
+    requires { ⌜ (length (now s) ≤ 20) × (length (now out) ≡ length (now s)) × IsPermutation (length (now s)) (now s) ⌝ }
+    ensures { λ r. ⌜ (now (out .exit) ≡ now (s .entry)) × (length r ≡ 21) × ((j : ℕ) → j < length (now (s .entry)) → getD r (getD (now (s .entry)) j 0) 0 ≡ j) ⌝ }
 {
+    let mut index = [0u8; 21];
     let mut i = 0;
     while i < s.len() {
-        out[i] = s[i];
+        let v = s[i];
+        out[i] = v;
+        index[wide(v)] = i as u8;
         i += 1;
     }
-}
-
-// The index of a value that occurs.
-fn position(s: &[u8], v: usize) -> usize
-    requires { ⌜ 0 < tally (eqb v) (now s) ⌝ }
-    ensures { λ r. ⌜ (r < length (now (s .entry))) × (getD (now (s .entry)) r 0 ≡ v) ⌝ }
-{
-    let mut i = 0;
-    while wide(s[i]) != v {
-        i += 1;
-    }
-    i
+    index
 }
 
 // The array of the permutation s. From the last position down: the value m stands at index i of the first m, so entry m is i + 1,
-// and the value at position m takes its place.
+// and the value at position m takes its place, and its index.
 fn write_array(s: &[u8], out: &mut [u8])
     requires { ⌜ (length (now s) ≤ 20) × (length (now out) ≡ length (now s)) × IsPermutation (length (now s)) (now s) ⌝ }
     ensures { λ r. ⌜ IsArrayOf (now (s .entry)) (now (out .exit)) ⌝ }
 {
-    copy(s, out);
+    let mut index = copy_indexed(s, out);
     let mut m = out.len();
     while 0 < m {
-        let i = position(&out[..m], m);
+        let i = index[m];
         m -= 1;
-        out[i] = out[m];
-        out[m] = (i + 1) as u8;
+        index[wide(out[m])] = i;
+        out[wide(i)] = out[m];
+        out[m] = i + 1;
     }
 }
 

@@ -2,6 +2,7 @@ pub mod Parity
 pub mod Reversed
 pub mod Grown
 pub mod Search
+pub mod Extension
 pub mod Parts
 pub mod Ranking
 pub mod Stands

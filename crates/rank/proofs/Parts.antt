@@ -18,8 +18,8 @@ use Rattle.gray.specs.declared.Block.the-variants.{Insert as I, Extend as E}
 use Rattle.gray.specs.Order.{Row, S, joined}
 use Rattle.gray.specs.Blocks.{blocks}
 use Rattle.gray.specs.Listing.{rowAt}
-use Rattle.gray.proofs.BlockAt.{block}
-use Rattle.gray.proofs.Blocks.{InPlace, in-place}
+use Rattle.gray.proofs.Indexed.{block}
+use Rattle.gray.proofs.InPlace.{InPlace, in-place}
 use Rattle.gray.proofs.Once.{length-S}
 use Rattle.rank.specs.Search.{grown, sourceOf, ComesFrom}
 use Rattle.rank.specs.Ranking.{cyclesLeft, Occurs, readingOf, IsPart}

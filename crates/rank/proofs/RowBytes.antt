@@ -8,12 +8,10 @@ use mathlib.Core.Path.{_≡_, _∙_, refl, sym, ap}
 use mathlib.Core.List.{List, [], _∷_, _++_, flatten, append-assoc, append-nil}
 use lib.ListN.{length, take, drop, length-append, length-drop, drop-of-length-le}
 use lib.Seq.{length-take-le, take-at, drop-at, take-append-le, drop-append-le, drop-append-add, getD-take, getD-drop, take-all, drop-drop}
-use borrow.Author.Tests.{eq-eqb}
 use Rattle.stirling.specs.Count.{c}
-use Rattle.stirling.proofs.Counts.{place-passes}
 use Rattle.gray.specs.Order.{S}
 use Rattle.gray.specs.Listing.{rowAt}
-use Rattle.rank.specs.Place.{Unranked, checkRows, rowsFrom, RowsWritten}
+use Rattle.rank.specs.Place.{checkRows, rowsFrom, RowsWritten}
 use Rattle.gray.proofs.Once.{length-S, complete}
 use Rattle.rank.proofs.RowChecks.{row-count-passed, rows-passed}
 
@@ -100,24 +98,20 @@ no-rows n k place whole =
     let e : 0 * n ≡ 0 = omega arith in
     rw e
 
--- where n and the place are in range, and n bytes are lent, `unrank` writes the row at the place
-served : (n k place r : ℕ) (before after : List ℕ) → 1 ≤ n → n ≤ 20 → place < c n k → length before ≡ n
-    → Unranked n k place before r after → after ≡ rowAt (S n k) place
-served n k place r before after l h p e u =
-    u .written (u .refusal ∙ rw (place-passes n k place l h p, eq-eqb (length before) n e))
-
--- one turn: a list that begins with i rows, whose part from i × n to (i + 1) × n `unrank` was lent, begins with i + 1 rows
-pub turn : (n k place i end r : ℕ) (part whole row : List ℕ) → 1 ≤ n → n ≤ 20 → place + i < c n k → end ≡ i * n + n → end ≤ length whole
-    → part ≡ rowsFrom n k place i ++ drop (i * n) whole
-    → Unranked n k (place + i) (take (end - i * n) (drop (i * n) part)) r row
-    → take (i * n) part ++ (row ++ drop (end - i * n) (drop (i * n) part)) ≡ rowsFrom n k place (i + 1) ++ drop ((i + 1) * n) whole
-turn n k place i end r part whole row l h p z room e u =
-    let front : length (rowsFrom n k place i) ≡ i * n = length-rows n k place i (omega arith) in
-    let rest : drop (i * n) part ≡ drop (i * n) whole = ap (drop (i * n)) e ∙ drop-at (rowsFrom n k place i) (drop (i * n) whole) (i * n) front in
+-- the part of a list from i × n to (i + 1) × n has n elements
+pub row-lent : (n i end : ℕ) (part : List ℕ) → end ≡ i * n + n → end ≤ length part → length (take (end - i * n) (drop (i * n) part)) ≡ n
+row-lent n i end part z room =
     let size : end - i * n ≡ n = omega arith in
-    let left : n ≤ length (drop (i * n) whole) = omega (arith, length-drop (i * n) whole) in
-    let lent : length (take (end - i * n) (drop (i * n) part)) ≡ n = rw (size, rest) (length-take-le n (drop (i * n) whole) left) in
-    let written : row ≡ rowAt (S n k) (place + i) = served n k (place + i) r _ row l h p lent u in
+    rw size (length-take-le n (drop (i * n) part) (omega (arith, length-drop (i * n) part)))
+
+-- one turn: a list that begins with i rows, whose part from i × n to (i + 1) × n becomes the row at place + i, begins with i + 1 rows
+pub turn : (n k place i end : ℕ) (part whole row : List ℕ) → place + i < c n k → end ≡ i * n + n
+    → part ≡ rowsFrom n k place i ++ drop (i * n) whole
+    → row ≡ rowAt (S n k) (place + i)
+    → take (i * n) part ++ (row ++ drop (end - i * n) (drop (i * n) part)) ≡ rowsFrom n k place (i + 1) ++ drop ((i + 1) * n) whole
+turn n k place i end part whole row p z e written =
+    let front : length (rowsFrom n k place i) ≡ i * n = length-rows n k place i (omega arith) in
+    let size : end - i * n ≡ n = omega arith in
     let next : (i + 1) * n ≡ i * n + n = omega (arith, suc-mul i n) in
     rw (size, e, splice (i * n) n (rowsFrom n k place i) row whole front, one-more n k place i p, written, next)
 

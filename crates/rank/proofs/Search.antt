@@ -14,8 +14,8 @@ use Rattle.gray.specs.declared.Block.the-variants.{Insert as I, Extend as E}
 use Rattle.gray.specs.Order.{Row, S, odd, reading, rows, joined}
 use Rattle.gray.specs.Blocks.{blocks}
 use Rattle.gray.specs.Listing.{rowAt}
-use Rattle.gray.proofs.BlockAt.{block}
-use Rattle.gray.proofs.Blocks.{InPlace, in-place}
+use Rattle.gray.proofs.Indexed.{block}
+use Rattle.gray.proofs.InPlace.{InPlace, in-place}
 use Rattle.rank.specs.declared.Source.{Source}
 use Rattle.rank.specs.Search.{grown, sourceOf, sourceRow, ComesFrom}
 use Rattle.gray.proofs.Joined.{S-blocks}

@@ -10,7 +10,7 @@ use lib.ListN.{length, take, drop, length-append}
 use lib.Seq.{length-take-le, take-at}
 use Rattle.stirling.specs.Refusal.{_then_}
 use Rattle.stirling.specs.Count.{checkSize}
-use Rattle.stirling.proofs.Refusals.{then-passed}
+use Rattle.stirling.proofs.Refusals.{then-stops}
 use Rattle.stirling.proofs.Counts.{size-passed}
 use Rattle.perm.specs.Lists.{tally, positions}
 use Rattle.perm.specs.Permutation.{at}
@@ -21,31 +21,31 @@ use Rattle.perm.proofs.Arrays.{cycles-product}
 use Rattle.rank.specs.Place.{StandsAt}
 use Rattle.rank.specs.Ranking.{Rankable, PlaceIn}
 
--- where checks 1, 6 and 7 pass together, each passes
-checks-passed : (s : List ℕ) → checkPermutation s ≡ 0 → (checkSize (length s) ≡ 0) × (checkValues s ≡ 0) × (checkTwice s ≡ 0)
-checks-passed s e =
-    let (first, twice) = then-passed (checkSize (length s) then checkValues s) (checkTwice s) e in
-    let (size, values) = then-passed (checkSize (length s)) (checkValues s) first in
-    (size, values, twice)
+-- a refusal of check 1 stands before checks 6 and 7
+pub size-refused : (s : List ℕ) (r : ℕ) → r ≡ checkSize (length s) → (r ≡ 0 → ⊥) → r ≡ checkPermutation s
+size-refused s r e h = then-stops (checkSize (length s) then checkValues s) (checkTwice s) r (then-stops (checkSize (length s)) (checkValues s) r e h) h
 
--- so that there are at most 20 values
-pub few-values : (s : List ℕ) → checkPermutation s ≡ 0 → length s ≤ 20
-few-values s e = size-passed (length s) (checks-passed s e .0) .1
+-- where check 1 passes there are at most 20 values
+pub few-values : (s : List ℕ) → checkSize (length s) ≡ 0 → length s ≤ 20
+few-values s size = size-passed (length s) size .1
 
--- the array of s is written to the front of a list z of 20 bytes
-module _ (s : List ℕ) {after : List ℕ} {r : ℕ} (passed : checkPermutation s ≡ 0) (z : List ℕ) (e : length z ≡ 20) (w : ToArray s (take (length s) z) r after) where
-  written : IsArrayOf s after
-  written =
-      let (size, values, twice) = checks-passed s passed in
-      let lent = length-take-le (length s) z (omega (arith, few-values s passed)) in
-      w .written (w .refusal ∙ rw (size, eq-eqb _ _ lent, values, twice))
+-- and the array of s is written to the front of a list z of 20 bytes
+module _ (s : List ℕ) (size : checkSize (length s) ≡ 0) (z : List ℕ) (e : length z ≡ 20) where
+  pub front-lent : length (take (length s) z) ≡ length s
+  front-lent = length-take-le (length s) z (omega (arith, few-values s size))
 
-  -- and read from there
-  pub array-read : IsArrayOf s (take (length s) (after ++ drop (length s) z))
-  array-read = rw (take-at after (drop (length s) z) (length s) (written .array .size)) written
+  module _ {after : List ℕ} {r : ℕ} (w : ToArray s (take (length s) z) r after) where
+    -- the refusal is that of checks 1, 6 and 7
+    pub array-refusal : r ≡ checkPermutation s
+    array-refusal = w .refusal ∙ rw (size, eq-eqb _ _ front-lent)
 
-  pub array-inside : length s ≤ length (after ++ drop (length s) z)
-  array-inside = omega (arith, length-append after (drop (length s) z), written .array .size)
+    -- where there is none, the array is read from there
+    module _ (passed : r ≡ 0) where
+      pub array-read : IsArrayOf s (take (length s) (after ++ drop (length s) z))
+      array-read = rw (take-at after (drop (length s) z) (length s) (w .written passed .array .size)) (w .written passed)
+
+      pub array-inside : length s ≤ length (after ++ drop (length s) z)
+      array-inside = omega (arith, length-append after (drop (length s) z), w .written passed .array .size)
 
 -- the array of a permutation of at most 20 values, with its fixed entries counted
 module _ {s a : List ℕ} {k : ℕ} (w : IsArrayOf s a) (h : length s ≤ 20) (e : k ≡ tally (λ i. eqb (at a i) i) (positions (length a))) where

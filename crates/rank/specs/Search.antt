@@ -3,11 +3,13 @@ use mathlib.Core.Path.{_≡_}
 use Prim.Native.Nat.{ℕ, _-_, _≤_, _<_}
 use mathlib.Core.Bool.{cond}
 use mathlib.Core.List.{reverse}
+use lib.ListN.{length, getD}
 use Rattle.stirling.specs.Count.{c}
 use Rattle.perm.specs.Permutation.{exchange, extend}
 use Rattle.gray.specs.declared.Block.{Block}
 use Rattle.gray.specs.declared.Block.the-variants.{Insert as I, Extend as E}
 use Rattle.gray.specs.Order.{Row, S, odd}
+use Rattle.gray.specs.Blocks.{blocks}
 use Rattle.gray.specs.Listing.{rowAt}
 use Rattle.rank.specs.declared.Source.{Source}
 
@@ -19,6 +21,11 @@ grown n i γ = exchange i n (extend n γ)
 abbrev pub sourceOf : ℕ → ℕ → Block → ℕ → Source
 sourceOf n k (I i e) place = record { position = i; cycles = k; backward = odd e; place = place }
 sourceOf n k (E e) place = record { position = n; cycles = k - 1; backward = odd e; place = place }
+
+-- of the blocks of S(n,k), the one at index x extends, and the others insert
+pub record ExtendsAt (n k x : ℕ) : Type 0 where
+  pub extends : (j place : ℕ) → j < length (blocks n k) → j ≡ x → sourceOf n k (getD (blocks n k) j (E 0)) place .cycles ≡ k - 1
+  pub inserts : (j place : ℕ) → j < length (blocks n k) → (j ≡ x → ⊥) → sourceOf n k (getD (blocks n k) j (E 0)) place .cycles ≡ k
 
 -- the row that a source leads to
 abbrev pub sourceRow : ℕ → Source → Row

@@ -7,13 +7,13 @@ ghost use mathlib.Core.Bool.{true, false};
 ghost use mathlib.Core.List.{_++_, reverse};
 ghost use lib.Dec.{eqb};
 ghost use lib.ListN.{length, take, drop};
-ghost use Rattle.stirling.specs.Count.{c};
+ghost use Rattle.stirling.specs.Count.{c, IsTable};
 ghost use Rattle.perm.specs.Lists.{tally, positions};
 ghost use Rattle.perm.specs.Permutation.{at};
 ghost use Rattle.gray.specs.Order.{S};
 ghost use Rattle.gray.specs.Listing.{rowAt};
 ghost use Rattle.rank.specs.Place.{Unranked, Ranked, checkRowCount, rowsFrom, RowsWritten};
-ghost use Rattle.rank.specs.Search.{grown, sourceOf, ComesFrom, Readable};
+ghost use Rattle.rank.specs.Search.{grown, sourceOf, ExtendsAt, ComesFrom, Readable};
 ghost use Rattle.rank.specs.Ranking.{Occurs, IsPart, Rankable, PlaceIn};
 
 // The refusal of check 4.
@@ -67,18 +67,39 @@ fn source_of(n: u64, k: u64, block: Block, place: u64) -> Source
     }
 }
 
-// What the row of S(n,k) at a place comes from: the blocks are passed, one after the other, up to the one that holds the place.
-fn source_at(n: u64, k: u64, place: u64) -> Source
+// The index of the block of S(n,k) that extends; where none does, as in (a) from n = 2 on, the number of blocks.
+fn extension_index(n: u64, k: u64) -> u64
+    requires { ⌜ (n ≤ 20) × (1 ≤ k) × (k ≤ n) ⌝ }
+    ensures { λ r. ⌜ ExtendsAt n k r ⌝ }
+{
+    if k == 1 {
+        return n - 1;
+    }
+    if k + 1 == n {
+        return k;
+    }
+    if k + 2 == n {
+        return k;
+    }
+    n - k
+}
+
+// What the row of S(n,k) at a place comes from: the blocks are passed, one after the other, up to the one that holds the place. A block that
+// inserts has as many rows as S(n-1,k), and the one that extends as many as S(n-1,k-1).
+fn source_at(counts: &[u64], n: u64, k: u64, place: u64) -> Source
+    requires { ⌜ IsTable (now counts) ⌝ }
     requires { ⌜ (1 ≤ n) × (n ≤ 20) × (place < c n k) ⌝ }
     ensures { λ r. ⌜ ComesFrom n k place r ⌝ }
 {
+    let inserted = stirling::entry(counts, n - 1, k);
+    let extended = stirling::entry(counts, n - 1, k - 1);
+    let extension = extension_index(n, k);
     let mut rest = place;
     let mut j = 0;
     loop {
-        let source = source_of(n, k, gray::block_at(n, k, j), rest);
-        let size = stirling::lookup(n - 1, source.cycles);
+        let size = if j == extension { extended } else { inserted };
         if rest < size {
-            return source;
+            return source_of(n, k, gray::block_at(n, k, j), rest);
         }
         rest -= size;
         j += 1;
@@ -97,39 +118,41 @@ fn grow(n: u64, i: u64, out: &mut [u8])
 }
 
 // The row of S(n,k) at a place, read forward.
-fn unrank_forward(n: u64, k: u64, place: u64, out: &mut [u8])
+fn unrank_forward(counts: &[u64], n: u64, k: u64, place: u64, out: &mut [u8])
+    requires { ⌜ IsTable (now counts) ⌝ }
     requires { ⌜ Readable n k place (length (now out)) ⌝ }
     ensures { λ _. ⌜ now (out .exit) ≡ rowAt (S n k) place ⌝ }
 {
     if n == 0 {
         return;
     }
-    let source = source_at(n, k, place);
+    let source = source_at(counts, n, k, place);
     let m = n - 1;
     let last = m as usize;
     if source.backward {
-        unrank_backward(m, source.cycles, source.place, &mut out[..last]);
+        unrank_backward(counts, m, source.cycles, source.place, &mut out[..last]);
     } else {
-        unrank_forward(m, source.cycles, source.place, &mut out[..last]);
+        unrank_forward(counts, m, source.cycles, source.place, &mut out[..last]);
     }
     grow(n, source.position, out);
 }
 
 // The row of S(n,k) at a place, read backward: place 0 is the last row.
-fn unrank_backward(n: u64, k: u64, place: u64, out: &mut [u8])
+fn unrank_backward(counts: &[u64], n: u64, k: u64, place: u64, out: &mut [u8])
+    requires { ⌜ IsTable (now counts) ⌝ }
     requires { ⌜ Readable n k place (length (now out)) ⌝ }
     ensures { λ _. ⌜ now (out .exit) ≡ rowAt (reverse (S n k)) place ⌝ }
 {
     if n == 0 {
         return;
     }
-    let source = source_at(n, k, stirling::lookup(n, k) - 1 - place);
+    let source = source_at(counts, n, k, stirling::entry(counts, n, k) - 1 - place);
     let m = n - 1;
     let last = m as usize;
     if source.backward {
-        unrank_backward(m, source.cycles, source.place, &mut out[..last]);
+        unrank_backward(counts, m, source.cycles, source.place, &mut out[..last]);
     } else {
-        unrank_forward(m, source.cycles, source.place, &mut out[..last]);
+        unrank_forward(counts, m, source.cycles, source.place, &mut out[..last]);
     }
     grow(n, source.position, out);
 }
@@ -138,19 +161,21 @@ fn unrank_backward(n: u64, k: u64, place: u64, out: &mut [u8])
 pub fn unrank(n: u64, k: u64, place: u64, out: &mut [u8]) -> u8
     ensures { λ r. ⌜ Unranked n k place (now (out .entry)) r (now (out .exit)) ⌝ }
 {
-    let refusal = stirling::check_place(n, k, place);
+    let counts = stirling::table();
+    let refusal = stirling::check_place_in(&counts, n, k, place);
     if refusal != 0 {
         return refusal;
     }
     if out.len() as u64 != n {
         return REFUSED_LENT;
     }
-    unrank_forward(n, k, place, out);
+    unrank_forward(&counts, n, k, place, out);
     0
 }
 
 // The part of S(n,k) that has value n at position i: the blocks are passed, one after the other, and their rows counted, up to the one that puts n there.
-fn part_with(n: u64, k: u64, i: u64) -> Part
+fn part_with(counts: &[u64], n: u64, k: u64, i: u64) -> Part
+    requires { ⌜ IsTable (now counts) ⌝ }
     requires { ⌜ Occurs n k i ⌝ }
     ensures { λ r. ⌜ IsPart n k i r ⌝ }
 {
@@ -165,13 +190,14 @@ fn part_with(n: u64, k: u64, i: u64) -> Part
                 backward: source.backward,
             };
         }
-        start += stirling::lookup(n - 1, source.cycles);
+        start += stirling::entry(counts, n - 1, source.cycles);
         j += 1;
     }
 }
 
 // The place in S(n,k), read forward, of the permutation of a transposition array of n entries.
-fn rank_forward(a: &[u8], k: u64) -> u64
+fn rank_forward(counts: &[u64], a: &[u8], k: u64) -> u64
+    requires { ⌜ IsTable (now counts) ⌝ }
     requires { ⌜ Rankable (now a) k ⌝ }
     ensures { λ r. ⌜ PlaceIn false (now (a .entry)) k r ⌝ }
 {
@@ -180,17 +206,18 @@ fn rank_forward(a: &[u8], k: u64) -> u64
         return 0;
     }
     let last = n - 1;
-    let part = part_with(n as u64, k, a[last] as u64);
+    let part = part_with(counts, n as u64, k, a[last] as u64);
     let inner = if part.backward {
-        rank_backward(&a[..last], part.cycles)
+        rank_backward(counts, &a[..last], part.cycles)
     } else {
-        rank_forward(&a[..last], part.cycles)
+        rank_forward(counts, &a[..last], part.cycles)
     };
     part.start + inner
 }
 
 // The place in S(n,k), read backward, of the permutation of a transposition array of n entries: place 0 is the last row.
-fn rank_backward(a: &[u8], k: u64) -> u64
+fn rank_backward(counts: &[u64], a: &[u8], k: u64) -> u64
+    requires { ⌜ IsTable (now counts) ⌝ }
     requires { ⌜ Rankable (now a) k ⌝ }
     ensures { λ r. ⌜ PlaceIn true (now (a .entry)) k r ⌝ }
 {
@@ -199,13 +226,13 @@ fn rank_backward(a: &[u8], k: u64) -> u64
         return 0;
     }
     let last = n - 1;
-    let part = part_with(n as u64, k, a[last] as u64);
+    let part = part_with(counts, n as u64, k, a[last] as u64);
     let inner = if part.backward {
-        rank_backward(&a[..last], part.cycles)
+        rank_backward(counts, &a[..last], part.cycles)
     } else {
-        rank_forward(&a[..last], part.cycles)
+        rank_forward(counts, &a[..last], part.cycles)
     };
-    stirling::lookup(n as u64, k) - 1 - (part.start + inner)
+    stirling::entry(counts, n as u64, k) - 1 - (part.start + inner)
 }
 
 // How many entries i of a transposition array are i itself: the number of cycles of its permutation.
@@ -223,24 +250,36 @@ fn fixed_entries(a: &[u8]) -> u64
     fixed
 }
 
-// Where a permutation stands: its number of cycles k, and its place in S(n,k), where n is the slice's length. Refusals in document 01's order.
+// A refusal, with zeros.
+fn refused(refusal: u8) -> Standing
+    ensures { λ r. ⌜ (r .refusal ≡ refusal) × (r .k ≡ 0) × (r .place ≡ 0) ⌝ }
+{
+    Standing {
+        refusal,
+        k: 0,
+        place: 0,
+    }
+}
+
+// Where a permutation stands: its number of cycles k, and its place in S(n,k), where n is the slice's length. Refusals in document 01's order:
+// check 1, and then checks 6 and 7 as its array is made.
 pub fn rank(s: &[u8]) -> Standing
     ensures { λ r. ⌜ Ranked (now (s .entry)) r ⌝ }
 {
-    let refusal = perm::check_permutation(s);
-    if refusal != 0 {
-        return Standing {
-            refusal,
-            k: 0,
-            place: 0,
-        };
-    }
     let n = s.len();
+    let size_refusal = stirling::check_size(n as u64);
+    if size_refusal != 0 {
+        return refused(size_refusal);
+    }
     let mut array = [0u8; 20];
-    perm::to_array(s, &mut array[..n]);
+    let array_refusal = perm::to_array(s, &mut array[..n]);
+    if array_refusal != 0 {
+        return refused(array_refusal);
+    }
     let entries = &array[..n];
     let k = fixed_entries(entries);
-    let place = rank_forward(entries, k);
+    let counts = stirling::table();
+    let place = rank_forward(&counts, entries, k);
     Standing {
         refusal: 0,
         k,
@@ -249,20 +288,29 @@ pub fn rank(s: &[u8]) -> Standing
 }
 
 // Checks 1, 2 and 3, then check 4: m is 1 to 1,000, and S(n,k) has m rows from the place on.
-pub fn check_row_count(n: u64, k: u64, place: u64, m: u64) -> u8
+fn check_row_count_in(counts: &[u64], n: u64, k: u64, place: u64, m: u64) -> u8
+    requires { ⌜ IsTable (now counts) ⌝ }
     ensures { λ r. ⌜ r ≡ checkRowCount n k place m ⌝ }
 {
-    let place_refusal = stirling::check_place(n, k, place);
+    let place_refusal = stirling::check_place_in(counts, n, k, place);
     if place_refusal != 0 {
         return place_refusal;
     }
     if m < 1 || m > MOST_ROWS {
         return REFUSED_ROWS;
     }
-    if m > stirling::lookup(n, k) - place {
+    if m > stirling::entry(counts, n, k) - place {
         return REFUSED_ROWS;
     }
     0
+}
+
+// The same checks, where no table is at hand.
+pub fn check_row_count(n: u64, k: u64, place: u64, m: u64) -> u8
+    ensures { λ r. ⌜ r ≡ checkRowCount n k place m ⌝ }
+{
+    let counts = stirling::table();
+    check_row_count_in(&counts, n, k, place, m)
 }
 
 // Check 5 of the rows: from byte o on, a buffer of `size` bytes has room for `bytes` of them. No sum is made that could wrap.
@@ -280,7 +328,8 @@ fn check_room(size: u64, o: u64, bytes: u64) -> u8
 }
 
 // The m rows of S(n,k) from a place on, one after another, at the front of `part`; the bytes after them stay.
-fn write_rows(n: u64, k: u64, place: u64, m: u64, part: &mut [u8])
+fn write_rows(counts: &[u64], n: u64, k: u64, place: u64, m: u64, part: &mut [u8])
+    requires { ⌜ IsTable (now counts) ⌝ }
     requires { ⌜ checkRowCount n k place m ≡ 0 ⌝ }
     requires { ⌜ m * n ≤ length (now part) ⌝ }
     ensures { λ _. ⌜ now (part .exit) ≡ rowsFrom n k place m ++ drop (m * n) (now (part .entry)) ⌝ }
@@ -289,7 +338,7 @@ fn write_rows(n: u64, k: u64, place: u64, m: u64, part: &mut [u8])
     while row < m {
         let at = (row * n) as usize;
         let end = at + n as usize;
-        unrank(n, k, place + row, &mut part[at..end]);
+        unrank_forward(counts, n, k, place + row, &mut part[at..end]);
         row += 1;
     }
 }
@@ -299,7 +348,8 @@ fn write_rows(n: u64, k: u64, place: u64, m: u64, part: &mut [u8])
 pub fn rows(n: u64, k: u64, place: u64, m: u64, o: u64, buf: &mut [u8]) -> u8
     ensures { λ r. ⌜ RowsWritten n k place m o (now (buf .entry)) r (now (buf .exit)) ⌝ }
 {
-    let count_refusal = check_row_count(n, k, place, m);
+    let counts = stirling::table();
+    let count_refusal = check_row_count_in(&counts, n, k, place, m);
     if count_refusal != 0 {
         return count_refusal;
     }
@@ -308,6 +358,6 @@ pub fn rows(n: u64, k: u64, place: u64, m: u64, o: u64, buf: &mut [u8]) -> u8
         return room_refusal;
     }
     let from = o as usize;
-    write_rows(n, k, place, m, &mut buf[from..]);
+    write_rows(&counts, n, k, place, m, &mut buf[from..]);
     0
 }

@@ -3,12 +3,13 @@
 use Prim.Native.Nat.{ℕ, zero, suc, _+_, _*_, _^_, _≤_, _<_}
 use native.Mathlib.Omega.{arith}
 use native.Mathlib.Nat.{le-trans, lt-of-le-of-lt, lt-of-not-le, mul-le-mul, mul-le-mul-left, mul-zero, mul-pos}
-use mathlib.Core.Path.{_≡_, refl}
-use mathlib.Core.Bool.{not}
+use mathlib.Core.Path.{_≡_, _∙_, refl, sym}
+use mathlib.Core.Bool.{Bool, true, false, not}
+use mathlib.Core.List.{List}
 use lib.Dec.{leb, lit<}
-use borrow.Author.Tests.{leb-false, le-leb, lt-leb, not-false}
-use Rattle.stirling.specs.Refusal.{refuse, within}
-use Rattle.stirling.specs.Count.{c, checkSize, checkCycles, checkPlace, lookupOf}
+use borrow.Author.Tests.{leb-true, leb-false, le-leb, lt-leb, not-false}
+use Rattle.stirling.specs.Refusal.{refuse, _then_, within}
+use Rattle.stirling.specs.Count.{c, entryOf, IsTable, checkSize, checkCycles, checkPlaceIn, checkPlace, lookupOf}
 use Rattle.stirling.proofs.Refusals.{refuse-passed, then-passed, within-holds, within-fails, within-true}
 
 -- c(n,k) = (n−1)×c(n−1,k) + c(n−1,k−1)
@@ -129,3 +130,19 @@ place-refuses n k r e p = rw (e, le-leb (c n k) r p)
 -- the table's entry is the count
 pub looked-up : (n k : ℕ) → n ≤ 20 → lookupOf n k ≡ c n k
 looked-up n k h = rw (le-leb n 20 h)
+
+-- what a table of the counts has for n and k is what a lookup gives, and by it check 3 is that of document 01
+module _ {counts : List ℕ} (w : IsTable counts) (n k : ℕ) where
+  pub entry-looked-up : entryOf counts n k ≡ lookupOf n k
+  entry-looked-up = by-size (leb n 20) refl
+    where
+      by-size : (b : Bool) → leb n 20 ≡ b → entryOf counts n k ≡ lookupOf n k
+      by-size true e = w .holds n k (leb-true n 20 e) ∙ sym (looked-up n k (leb-true n 20 e))
+      by-size false e = rw e
+
+  pub place-by-table : (r : ℕ) → checkPlaceIn counts n k r ≡ checkPlace n k r
+  place-by-table r = by-cycles (checkCycles n k) refl
+    where
+      by-cycles : (a : ℕ) → checkCycles n k ≡ a → a then refuse (leb (entryOf counts n k) r) 3 ≡ a then refuse (leb (c n k) r) 3
+      by-cycles zero e = rw (w .holds n k (cycles-passed n k e .1))
+      by-cycles (suc a) e = refl

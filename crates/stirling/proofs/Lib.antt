@@ -1,3 +1,3 @@
 pub mod Refusals
 pub mod Counts
-pub mod Table
+pub mod Rule

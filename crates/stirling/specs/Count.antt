@@ -1,7 +1,10 @@
 -- Document 01's *count* c(n,k), and the checks 1, 2 and 3 on numbers, which rest on it. These are definitions; nothing is assumed.
-use Prim.Native.Nat.{ℕ, zero, suc, _+_, _*_}
-use mathlib.Core.Bool.{not, cond}
+use mathlib.Core.Path.{_≡_}
+use Prim.Native.Nat.{ℕ, zero, suc, _+_, _*_, _≤_}
+use mathlib.Core.Bool.{not, cond, _&&_}
+use mathlib.Core.List.{List}
 use lib.Dec.{leb}
+use lib.ListN.{getD}
 use Rattle.stirling.specs.Refusal.{refuse, _then_, unless, within}
 use Rattle.stirling.specs.declared.Counted.{Counted}
 
@@ -23,6 +26,18 @@ checkCycles n k = checkSize n then refuse (not (within 1 n k)) 2
 -- checks 1 and 2, then check 3: place ≥ c(n,k)
 abbrev pub checkPlace : ℕ → ℕ → ℕ → ℕ
 checkPlace n k place = checkCycles n k then refuse (leb (c n k) place) 3
+
+-- the entry for n and k of a flat table of 21 × 21 numbers, and 0 outside it
+abbrev pub entryOf : List ℕ → ℕ → ℕ → ℕ
+entryOf counts n k = cond (leb n 20 && leb k 20) (getD counts (n * 21 + k) 0) 0
+
+-- such a table holds the counts for n up to 20
+pub record IsTable (counts : List ℕ) : Type 0 where
+  pub holds : (n k : ℕ) → n ≤ 20 → entryOf counts n k ≡ c n k
+
+-- checks 1 and 2, then check 3 by the count that a table has
+abbrev pub checkPlaceIn : List ℕ → ℕ → ℕ → ℕ → ℕ
+checkPlaceIn counts n k place = checkCycles n k then refuse (leb (entryOf counts n k) place) 3
 
 -- the count where n is at most 20, as the table has it
 abbrev pub lookupOf : ℕ → ℕ → ℕ

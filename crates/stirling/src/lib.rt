@@ -1,6 +1,6 @@
 // The unsigned Stirling numbers of the first kind: how many permutations of n have exactly k cycles; and the checks on n, k and a place.
 ghost use mathlib.Core.Path.{_≡_};
-ghost use Rattle.stirling.specs.Count.{lookupOf, checkSize, checkCycles, checkPlace, countOf};
+ghost use Rattle.stirling.specs.Count.{entryOf, IsTable, lookupOf, checkSize, checkCycles, checkPlaceIn, checkPlace, countOf};
 
 // The refusals of the checks on numbers; 0 is none.
 pub const REFUSED_SIZE: u8 = 1;
@@ -466,9 +466,16 @@ pub struct Counted {
     pub count: u64,
 }
 
-// c(n,k), and 0 where n is above 20.
-pub fn lookup(n: u64, k: u64) -> u64
-    ensures { λ r. ⌜ r ≡ lookupOf n k ⌝ }
+// The table of the counts, to be made once and lent.
+pub fn table() -> [u64; 441]
+    ensures { λ r. ⌜ IsTable r ⌝ }
+{
+    COUNTS
+}
+
+// The entry of a table for n and k, and 0 outside it.
+pub fn entry(counts: &[u64], n: u64, k: u64) -> u64
+    ensures { λ r. ⌜ r ≡ entryOf (now (counts .entry)) n k ⌝ }
 {
     if n > LARGEST {
         return 0;
@@ -476,7 +483,19 @@ pub fn lookup(n: u64, k: u64) -> u64
     if k > LARGEST {
         return 0;
     }
-    COUNTS[(n * ROW + k) as usize]
+    let at = (n * ROW + k) as usize;
+    if at < counts.len() {
+        return counts[at];
+    }
+    0
+}
+
+// c(n,k), and 0 where n is above 20.
+pub fn lookup(n: u64, k: u64) -> u64
+    ensures { λ r. ⌜ r ≡ lookupOf n k ⌝ }
+{
+    let counts = table();
+    entry(&counts, n, k)
 }
 
 // Check 1: n is 1 to 20.
@@ -503,18 +522,26 @@ pub fn check_cycles(n: u64, k: u64) -> u8
     0
 }
 
-// Checks 1 and 2, then check 3: the place is below c(n,k).
-pub fn check_place(n: u64, k: u64, place: u64) -> u8
-    ensures { λ r. ⌜ r ≡ checkPlace n k place ⌝ }
+// Checks 1 and 2, then check 3 by a table: the place is below its entry for n and k.
+pub fn check_place_in(counts: &[u64], n: u64, k: u64, place: u64) -> u8
+    ensures { λ r. ⌜ r ≡ checkPlaceIn (now (counts .entry)) n k place ⌝ }
 {
     let cycles_refusal = check_cycles(n, k);
     if cycles_refusal != 0 {
         return cycles_refusal;
     }
-    if place >= lookup(n, k) {
+    if place >= entry(counts, n, k) {
         return REFUSED_PLACE;
     }
     0
+}
+
+// Checks 1 and 2, then check 3: the place is below c(n,k).
+pub fn check_place(n: u64, k: u64, place: u64) -> u8
+    ensures { λ r. ⌜ r ≡ checkPlace n k place ⌝ }
+{
+    let counts = table();
+    check_place_in(&counts, n, k, place)
 }
 
 // Document 01's Count: checks 1 and 2, then c(n,k).

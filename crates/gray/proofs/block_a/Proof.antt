@@ -6,7 +6,7 @@ use native.Mathlib.Omega.{arith}
 use mathlib.Core.List.{[], _∷_}
 use Rattle.gray.specs.declared.Block.the-variants.{Insert as I, Extend as E}
 use Rattle.gray.specs.Blocks.{blocksOfA}
-use Rattle.gray.proofs.BlockAt.{block, falling-at, falling-past, first-a, long-a}
+use Rattle.gray.proofs.Indexed.{block, falling-at, falling-past, first-a, long-a}
 use Rattle.gray.proofs.block_a.Statement.{statement}
 use Rattle.gray.proofs.block_a.Tie as tie
 

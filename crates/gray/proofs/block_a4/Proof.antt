@@ -6,7 +6,7 @@ use native.Mathlib.Omega.{arith}
 use lib.ListN.{length, List·getD-eq-default}
 use Rattle.gray.specs.declared.Block.the-variants.{Insert as I, Extend as E}
 use Rattle.gray.specs.Blocks.{blocksOfA}
-use Rattle.gray.proofs.BlockAt.{block, first-a}
+use Rattle.gray.proofs.Indexed.{block, first-a}
 use Rattle.gray.proofs.block_a4.Statement.{statement}
 use Rattle.gray.proofs.block_a4.Tie as tie
 

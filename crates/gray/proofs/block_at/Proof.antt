@@ -8,7 +8,7 @@ use Rattle.gray.specs.declared.Letter.{Letter}
 use Rattle.gray.specs.declared.Letter.the-variants.{Nothing as none, A as by-a, B as by-b, C as by-c, D as by-d, E as by-e}
 use Rattle.gray.specs.Order.{letter}
 use Rattle.gray.specs.Blocks.{blocks, blocksOf}
-use Rattle.gray.proofs.BlockAt.{block}
+use Rattle.gray.proofs.Indexed.{block}
 use Rattle.gray.proofs.Which.{Which, is-none, is-a, is-b, is-c, is-d, is-e, which}
 use Rattle.gray.proofs.block_at.Statement.{statement}
 use Rattle.gray.proofs.block_at.Tie as tie

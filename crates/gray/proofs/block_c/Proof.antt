@@ -10,7 +10,7 @@ use lib.Dec.{eqb}
 use Rattle.gray.specs.declared.Block.{Block}
 use Rattle.gray.specs.declared.Block.the-variants.{Insert as I, Extend as E}
 use Rattle.gray.specs.Order.{blocksC3, blocksC}
-use Rattle.gray.proofs.BlockAt.{block, falling-at, falling-past}
+use Rattle.gray.proofs.Indexed.{block, falling-at, falling-past}
 use Rattle.gray.proofs.block_c.Statement.{statement}
 use Rattle.gray.proofs.block_c.Tie as tie
 

@@ -6,7 +6,7 @@ use native.Mathlib.Omega.{arith}
 use mathlib.Core.List.{[], _∷_}
 use Rattle.gray.specs.declared.Block.the-variants.{Insert as I, Extend as E}
 use Rattle.gray.specs.Order.{blocksD}
-use Rattle.gray.proofs.BlockAt.{block, rising-at, rising-past}
+use Rattle.gray.proofs.Indexed.{block, rising-at, rising-past}
 use Rattle.gray.proofs.block_d.Statement.{statement}
 use Rattle.gray.proofs.block_d.Tie as tie
 

@@ -8,7 +8,7 @@ use lib.ListN.{List·getD-eq-default}
 use Rattle.gray.specs.declared.Block.{Block}
 use Rattle.gray.specs.declared.Block.the-variants.{Insert as I, Extend as E}
 use Rattle.gray.specs.Order.{falling, blocksE}
-use Rattle.gray.proofs.BlockAt.{block, length-falling, block-falling, falling-at, falling-past}
+use Rattle.gray.proofs.Indexed.{block, length-falling, block-falling, falling-at, falling-past}
 use Rattle.gray.proofs.block_e.Statement.{statement}
 use Rattle.gray.proofs.block_e.Tie as tie
 

@@ -13,7 +13,7 @@ returns : tie.Need-returns
 returns c = then-stops _ _ _ (c .before .check-values .ensures) (c .if1 .taken)
 
 check-twice-requires : tie.Need-check-twice-requires
-check-twice-requires c κs = search needs
+check-twice-requires c κs = (c .before .before .before .pre, sym (c .before .check-values .ensures) ∙ c .if1 .left)
 
 returns-2 : tie.Need-returns-2
 returns-2 c = next _ _ (sym (c .before .before .check-values .ensures) ∙ c .before .if1 .left) (c .check-twice .ensures)

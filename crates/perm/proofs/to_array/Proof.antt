@@ -18,7 +18,7 @@ returns c =
     }
 
 check-contents-requires : tie.Need-check-contents-requires
-check-contents-requires c κs = search needs
+check-contents-requires c κs = lengths-passed _ _ (sym (c .before .check-lengths .ensures) ∙ c .if1 .left) .0
 
 returns-2 : tie.Need-returns-2
 returns-2 c =

@@ -1,78 +1,92 @@
--- `perm::write_array` meets its contract. The loop's invariant is `Left`: the first m of `out` are the permutation that is left, the others are entries.
--- Assumes nothing.
-use Prim.Native.Nat.{_<_}
+-- `perm::write_array` meets its contract. The loop's invariant is `Left`: the first m of `out` are the permutation that is left, the others are entries;
+-- and `Indexed`: the first m have their indices. Assumes nothing.
+use Prim.Native.Nat.{_≤_, _<_}
 use native.Mathlib.Omega.{arith}
 use mathlib.Core.Path.{_≡_, sym, _∙_}
-use lib.ListN.{getD, length-set}
-use lib.Seq.{length-take-le, getD-take}
-use Rattle.perm.proofs.Steps.{Left, left-all, left-step, left-none}
+use borrow.Author.Needs.{needs}
+use lib.ListN.{length, getD, length-set}
+use Rattle.perm.proofs.Steps.{Left, left-all, left-step, left-none, Indexed, index-found, last-bound, indexed-move}
 use Rattle.perm.proofs.write_array.Statement.{statement}
 use Rattle.perm.proofs.write_array.Tie as tie
 
 abbrev Inv-loop : tie.InvT-loop
-Inv-loop s out₀ m₀ out m = Left s out m
+Inv-loop s out₀ index₀ m₀ out index m = Left s out m × Indexed out index m
 
 abbrev μ-loop : tie.MeasureT-loop
-μ-loop s out₀ m₀ out m = m
+μ-loop s out₀ index₀ m₀ out index m = m
 
-copy-requires : tie.Need-copy-requires Inv-loop μ-loop
-copy-requires c κs = c .before .before .before .pre .1
+copy-indexed-requires : tie.Need-copy-indexed-requires Inv-loop μ-loop
+copy-indexed-requires c κs = c .before .before .before .pre
 
 loop-holds : tie.Need-loop-holds Inv-loop μ-loop
-loop-holds c = rw (c .before .before .copy .ensures) (left-all (c .before .before .before .before .before .before .pre .2))
-
-slice-reshare-prefix-position : tie.Need-slice-reshare-prefix-position Inv-loop μ-loop
-slice-reshare-prefix-position c = c .before .loop .inv .bound
-
-slice-aggregate-position : tie.Need-slice-aggregate-position Inv-loop μ-loop
-slice-aggregate-position c = sym (length-take-le _ _ (c .before .before .loop .inv .bound))
-
-position-requires : tie.Need-position-requires Inv-loop μ-loop
-position-requires c κs =
+loop-holds c =
     let b = c .before .before in
-    omega (arith, b .loop .inv .rest .once (b .loop .m) (omega arith) (omega arith))
+    let x = b .copy-indexed .ensures in
+    rw (x .0) (left-all (b .before .before .before .before .pre .2), record { size = x .1; index-of = x .2 })
 
--- the value m stands at the index that `position` gives, below m
-there : (c : tie.After-position Inv-loop μ-loop)
-    → (c .position .result < c .before .before .before .loop .m) × (getD (c .before .before .before .loop .out) (c .position .result) 0 ≡ c .before .before .before .loop .m)
-there c =
-    let b = c .before .before .before in
-    let m = b .loop .m in
-    let h : c .position .result < m = omega (arith, length-take-le m (b .loop .out) (b .loop .inv .bound), c .position .ensures .0) in
-    (h, sym (getD-take m (b .loop .out) (c .position .result) 0 h) ∙ c .position .ensures .1)
+-- the lengths, in the loop
+lengths : (c : tie.In-loop Inv-loop μ-loop) → (c .before .loop .m ≤ length (c .before .loop .out)) × (length (c .before .loop .out) ≤ 20)
+lengths c =
+    let left = c .before .loop .inv .0 in
+    (left .bound, omega (arith, left .size, c .before .before .before .before .before .before .before .before .pre .0))
+
+-- the value m stands at the index that is looked up, below m
+there : (c : tie.In-loop Inv-loop μ-loop)
+    → (getD (c .before .loop .index) (c .before .loop .m) 0 < c .before .loop .m)
+    × (getD (c .before .loop .out) (getD (c .before .loop .index) (c .before .loop .m) 0) 0 ≡ c .before .loop .m)
+there c = let b = c .before .loop in index-found (b .m) (b .inv .0 .rest) (b .inv .1) (omega arith)
+
+array-read-i : tie.Need-array-read-i Inv-loop μ-loop
+array-read-i c = omega (arith, lengths c)
 
 sub-m : tie.Need-sub-m Inv-loop μ-loop
 sub-m c = omega arith
 
+slice-read-wide : tie.Need-slice-read-wide Inv-loop μ-loop
+slice-read-wide c = omega (arith, lengths (c .before))
+
+wide-requires : tie.Need-wide-requires Inv-loop μ-loop
+wide-requires c κs = search needs
+
+array-write-index : tie.Need-array-write-index Inv-loop μ-loop
+array-write-index c =
+    let i = c .before .before in
+    let b = i .before .loop in
+    rw (c .wide .ensures) (omega (arith, lengths i, last-bound (b .m) (b .inv .0 .rest) (b .inv .1) (omega arith)))
+
 slice-read-out : tie.Need-slice-read-out Inv-loop μ-loop
-slice-read-out c = omega (arith, c .before .before .before .before .loop .inv .bound)
+slice-read-out c = omega (arith, lengths (c .before .before .before))
+
+wide-requires-2 : tie.Need-wide-requires-2 Inv-loop μ-loop
+wide-requires-2 c κs = search needs
 
 slice-write-out : tie.Need-slice-write-out Inv-loop μ-loop
-slice-write-out c = omega (arith, there (c .before), c .before .before .before .before .loop .inv .bound)
+slice-write-out c = let i = c .before .before .before .before in rw (c .wide2 .ensures) (omega (arith, there i, lengths i))
 
 add-out : tie.Need-add-out Inv-loop μ-loop
-add-out c = omega (arith, there (c .before), c .before .before .before .before .loop .inv .bound)
-
-cast-out : tie.Need-cast-out Inv-loop μ-loop
-cast-out c = omega (arith, there (c .before), c .before .before .before .before .loop .inv .bound)
+add-out c = let i = c .before .before .before .before in omega (arith, there i, lengths i)
 
 slice-write-out-2 : tie.Need-slice-write-out-2 Inv-loop μ-loop
-slice-write-out-2 c = simp length-set (omega (arith, c .before .before .before .before .loop .inv .bound))
+slice-write-out-2 c = simp length-set (omega (arith, lengths (c .before .before .before .before)))
 
 loop-less : tie.Need-loop-less Inv-loop μ-loop
 loop-less c = omega arith
 
 loop-again : tie.Need-loop-again Inv-loop μ-loop
 loop-again c =
-    let b = c .before .before .before .before in
-    let i = there (c .before) in
-    left-step (b .loop .m) (c .before .position .result) (b .loop .inv) (i .0) (i .1)
+    let i = c .before .before .before .before in
+    let b = i .before .loop in
+    let t = there i in
+    let l = lengths i in
+    rw
+    (c .wide2 .ensures)
+    (left-step (b .m) _ (b .inv .0) (t .0) (t .1), indexed-move (b .m) (b .inv .0 .rest) (b .inv .1) _ _ (l .0) (l .1) (t .0) (c .before .before .wide .ensures))
 
 same-length : tie.Need-same-length Inv-loop μ-loop
-same-length c = c .before .loop .inv .size ∙ sym (c .before .before .before .before .before .before .before .before .pre .1)
+same-length c = c .before .loop .inv .0 .size ∙ sym (c .before .before .before .before .before .before .before .before .pre .1)
 
 returns : tie.Need-returns Inv-loop μ-loop
-returns c = let e : c .before .loop .m ≡ 0 = omega arith in left-none (rw e at (c .before .loop .inv))
+returns c = let e : c .before .loop .m ≡ 0 = omega arith in left-none (rw e at (c .before .loop .inv .0))
 
 pub write-array-spec : {M : Type 1} → statement M
 write-array-spec =
@@ -80,16 +94,17 @@ write-array-spec =
     (tie.spec
     Inv-loop
     μ-loop
-    copy-requires
+    copy-indexed-requires
     loop-holds
-    slice-reshare-prefix-position
-    slice-aggregate-position
-    position-requires
+    array-read-i
     sub-m
+    slice-read-wide
+    wide-requires
+    array-write-index
     slice-read-out
+    wide-requires-2
     slice-write-out
     add-out
-    cast-out
     slice-write-out-2
     loop-less
     loop-again

@@ -7,7 +7,7 @@ use native.Mathlib.Omega.{arith}
 use lib.ListN.{length}
 use Rattle.stirling.specs.Count.{checkPlace}
 use Rattle.stirling.proofs.Refusals.{then-passes, then-stops}
-use Rattle.stirling.proofs.Counts.{place-passed}
+use Rattle.stirling.proofs.Counts.{place-passed, place-by-table}
 use Rattle.perm.specs.Checks.{checkLent}
 use Rattle.rank.specs.Place.{checkUnrank}
 use Rattle.rank.proofs.unrank.Statement.{statement}
@@ -20,41 +20,59 @@ lent-refused n k place size z h = then-passes (checkPlace n k place) (checkLent 
 passed : (n k place size : ℕ) → checkPlace n k place ≡ 0 → size ≡ n → checkUnrank n k place size ≡ 0
 passed n k place size z h = then-passes (checkPlace n k place) (checkLent n size) z ∙ rw (eq-eqb size n h)
 
-check-place-requires : tie.Need-check-place-requires
-check-place-requires c κs = search needs
+table-requires : tie.Need-table-requires
+table-requires c κs = search needs
+
+slice-aggregate-check-place-in : tie.Need-slice-aggregate-check-place-in
+slice-aggregate-check-place-in c = search needs
+
+check-place-in-requires : tie.Need-check-place-in-requires
+check-place-in-requires c κs = search needs
+
+-- by the table, the place is checked as document 01 says
+is-place : (c : tie.After-check-place-in) → let a = c .before .before .before .before .args in c .check-place-in .result ≡ checkPlace (a .n) (a .k) (a .place)
+is-place c =
+    let a = c .before .before .before .before .args in
+    c .check-place-in .ensures ∙ place-by-table (c .before .before .table .ensures) (a .n) (a .k) (a .place)
 
 returns : tie.Need-returns
 returns c =
     record {
-      refusal = then-stops _ _ _ (c .before .check-place .ensures) (c .if1 .taken);
+      refusal = then-stops _ _ _ (is-place (c .before)) (c .if1 .taken);
       written = λ z. absurd (c .if1 .taken z);
       kept = λ _. refl;
     }
 
 returns-2 : tie.Need-returns-2
 returns-2 c =
-    let e = c .before .before .before .before in
-    let z = sym (c .before .before .check-place .ensures) ∙ c .before .if1 .left in
+    let b = c .before .before in
+    let e = b .before .before .before .before in
+    let z = sym (is-place b) ∙ c .before .if1 .left in
     record {
       refusal = sym (lent-refused (e .args .n) (e .args .k) (e .args .place) (length (e .args .out .now)) z (c .if2 .taken));
       written = λ z. absurd (omega arith);
       kept = λ _. refl;
     }
 
+slice-aggregate-unrank-forward : tie.Need-slice-aggregate-unrank-forward
+slice-aggregate-unrank-forward c = search needs
+
 unrank-forward-requires : tie.Need-unrank-forward-requires
 unrank-forward-requires c κs =
-    let e = c .before .before .before .before .before in
-    let p = place-passed (e .args .n) (e .args .k) (e .args .place) (sym (c .before .before .before .check-place .ensures) ∙ c .before .before .if1 .left) in
-    record { small = p .1; below = p .4; lent = c .before .if2 .left }
+    let b = c .before .before .before .before in
+    let e = b .before .before .before .before in
+    let p = place-passed (e .args .n) (e .args .k) (e .args .place) (sym (is-place b) ∙ c .before .before .before .if1 .left) in
+    (b .before .before .table .ensures, record { small = p .1; below = p .4; lent = c .before .before .if2 .left })
 
 same-length : tie.Need-same-length
 same-length c = search needs
 
 returns-3 : tie.Need-returns-3
 returns-3 c =
-    let b = c .before .before .before .before in
-    let e = b .before .before .before .before in
-    let z = sym (b .before .before .check-place .ensures) ∙ b .before .if1 .left in
+    let b = c .before .before .before .before .before in
+    let p = b .before .before in
+    let e = p .before .before .before .before in
+    let z = sym (is-place p) ∙ b .before .if1 .left in
     record {
       refusal = sym (passed (e .args .n) (e .args .k) (e .args .place) (length (e .args .out .now)) z (b .if2 .left));
       written = λ _. c .before .before .unrank-forward .ensures;
@@ -62,4 +80,15 @@ returns-3 c =
     }
 
 pub unrank-spec : {M : Type 1} → statement M
-unrank-spec = tie.close (tie.spec check-place-requires returns returns-2 unrank-forward-requires same-length returns-3)
+unrank-spec =
+    tie.close
+    (tie.spec
+    table-requires
+    slice-aggregate-check-place-in
+    check-place-in-requires
+    returns
+    returns-2
+    slice-aggregate-unrank-forward
+    unrank-forward-requires
+    same-length
+    returns-3)

@@ -12,7 +12,7 @@ use Rattle.gray.specs.declared.Block.the-variants.{Insert as I, Extend a
 use Rattle.gray.specs.Order.{rising, falling, blocksC3, blocksC, blocksD, blocksE}
 use Rattle.gray.specs.Blocks.{blocksOfA, blocksOf, blocks}
 use Rattle.gray.proofs.Which.{Which, is-none, is-a, is-b, is-c, is-d, is-e, which}
-use Rattle.gray.proofs.BlockAt.{block, length-falling, length-rising}
+use Rattle.gray.proofs.Indexed.{block, length-falling, length-rising}
 
 -- an insertion is at a position from 1 to n−1
 abbrev pub InPlace : ℕ → Block → Type 0
