@@ -6,12 +6,12 @@ use mathlib.Core.List.{List, [], _∷_}
 use Prim.Native.Nat.{ℕ, zero, suc, _+_, _≤_, _<_}
 use native.Mathlib.Omega.{arith}
 use lib.Dec.{leb}
-use borrow.Author.Tests.{lt-ltb, leb-false, eq-eqb}
+use borrow.Author.Tests.{lt-ltb, leb-false}
 use Rattle.stirling.specs.Refusal.{unless}
 use Rattle.stirling.specs.Count.{c, checkCycles}
 use Rattle.stirling.proofs.Refusals.{refuse-passed, within-holds}
 use Rattle.stirling.proofs.Counts.{cycles-passed, positive}
-use Rattle.perm.specs.Lists.{same}
+use Rattle.gray.proofs.Same.{same-refl}
 use Rattle.cursor.specs.Machine.{Machine, Call, forward, back, jump, show, observe, refusalOf, destination, moved, turn, turned, machineRun}
 use Rattle.cursor.specs.Walk.{sound, called, start, opened, callsRun, walkRun, plainRun}
 
@@ -24,12 +24,6 @@ pub record OnPlace (m : Machine) : Type 0 where
 -- and on another place of the same list
 pub on-moved : (m : Machine) → OnPlace m → (place : ℕ) → place < c (m .n) (m .k) → OnPlace (moved m place)
 on-moved m on place h = record { size = on .size; cycles = on .cycles; below = h }
-
--- a list is the same as itself
-pub same-refl : (xs : List ℕ) → same xs xs ≡ true
-unfolding same
-same-refl [] = refl
-same-refl (x ∷ xs) = rw (eq-eqb x x refl) (same-refl xs)
 
 -- a record that shows a machine on its place passes check 8
 pub sound-observe : (m : Machine) → OnPlace m → sound (observe m) ≡ true

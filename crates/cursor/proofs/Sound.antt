@@ -1,35 +1,19 @@
 -- Check 8 taken apart: a record passes it just if it is the one that shows the plain machine on a place of its list. Assumes nothing.
-use mathlib.Core.Path.{_≡_, refl, sym, _∙_}
-use mathlib.Core.Bool.{Bool, true, false, _&&_, false≢true}
-use mathlib.Core.List.{List, [], _∷_}
-use Prim.Native.Nat.{ℕ}
-use lib.Dec.{eqb, ltb}
-use borrow.Author.Tests.{lt-ltb, ltb-true, eqb-true}
+use mathlib.Core.Path.{_≡_, sym, _∙_}
+use mathlib.Core.Bool.{Bool, true, false, _&&_}
+use lib.Dec.{ltb}
+use borrow.Author.Tests.{lt-ltb, ltb-true}
 use Rattle.stirling.specs.Refusal.{within}
 use Rattle.stirling.specs.Count.{c, checkPlace}
-use Rattle.stirling.proofs.Refusals.{within-holds, within-true}
+use Rattle.stirling.proofs.Refusals.{and-true, within-holds, within-true}
 use Rattle.stirling.proofs.Counts.{place-passes, place-passed}
 use Rattle.perm.specs.Lists.{same}
 use Rattle.perm.proofs.Tally.{refuted}
 use Rattle.cursor.specs.Machine.{Machine, observe}
+use Rattle.gray.proofs.Same.{same-true}
 use Rattle.cursor.specs.Walk.{machineOf, sound}
 use Rattle.cursor.specs.declared.Cursor.{Cursor}
 use Rattle.cursor.proofs.Calls.{OnPlace}
-
--- two tests that both pass
-both : (a b : Bool) → a && b ≡ true → (a ≡ true) × (b ≡ true)
-both true b e = (refl, e)
-both false b e = absurd (false≢true e)
-
--- lists that are the same are equal
-same-true : (xs ys : List ℕ) → same xs ys ≡ true → xs ≡ ys
-unfolding same
-same-true [] [] e = refl
-same-true [] (y ∷ ys) e = absurd (false≢true e)
-same-true (x ∷ xs) [] e = absurd (false≢true e)
-same-true (x ∷ xs) (y ∷ ys) e =
-    let (first, rest) = both (eqb x y) (same xs ys) e in
-    rw (eqb-true x y first, same-true xs ys rest)
 
 -- permutation and array those of the place
 abbrev pub compared : Cursor → Bool
@@ -46,10 +30,10 @@ sound-compares w e =
 pub sound-on : (w : Cursor) → sound w ≡ true → OnPlace (machineOf w)
 unfolding sound
 sound-on w e =
-    let (e₁, _) = both _ (same (w .array) (observe (machineOf w) .array)) e in
-    let (e₂, _) = both _ (same (w .perm) (observe (machineOf w) .perm)) e₁ in
-    let (e₃, place) = both (within 1 20 (w .n) && within 1 (w .n) (w .k)) (ltb (w .place) (c (w .n) (w .k))) e₂ in
-    let (size, cycles) = both (within 1 20 (w .n)) (within 1 (w .n) (w .k)) e₃ in
+    let (e₁, _) = and-true _ (same (w .array) (observe (machineOf w) .array)) e in
+    let (e₂, _) = and-true _ (same (w .perm) (observe (machineOf w) .perm)) e₁ in
+    let (e₃, place) = and-true (within 1 20 (w .n) && within 1 (w .n) (w .k)) (ltb (w .place) (c (w .n) (w .k))) e₂ in
+    let (size, cycles) = and-true (within 1 20 (w .n)) (within 1 (w .n) (w .k)) e₃ in
     record {
       size = within-true 1 20 (w .n) size;
       cycles = within-true 1 (w .n) (w .k) cycles;
@@ -70,5 +54,5 @@ unfolding observe
 sound-shows w e =
     let shown = observe (machineOf w) in
     let passed = sym (sound-compares w (on-passes (machineOf w) (sound-on w e))) ∙ e in
-    let (perm, array) = both (same (w .perm) (shown .perm)) (same (w .array) (shown .array)) passed in
+    let (perm, array) = and-true (same (w .perm) (shown .perm)) (same (w .array) (shown .array)) passed in
     rw (← same-true (w .perm) (shown .perm) perm, ← same-true (w .array) (shown .array) array)

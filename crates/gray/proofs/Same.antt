@@ -1,25 +1,23 @@
 -- A Boolean test of equality of rows, to count one row in a list. Assumes nothing.
 use mathlib.Core.Path.{_≡_, refl, sym}
-use mathlib.Core.Bool.{Bool, true, false, _&&_, false≢true}
+use mathlib.Core.Bool.{Bool, true, false, false≢true}
 use mathlib.Core.List.{[], _∷_}
 use lib.Dec.{eqb}
 use borrow.Author.Tests.{eqb-true, eq-eqb}
+use Rattle.stirling.proofs.Refusals.{and-true}
 use Rattle.perm.specs.Lists.{same}
 use Rattle.gray.specs.Order.{Row}
 use Rattle.perm.proofs.Tally.{refuted}
 
--- it passes on equal rows
-pub same-equal : (s t : Row) → s ≡ t → same s t ≡ true
+-- it passes on a row and itself
+pub same-refl : (s : Row) → same s s ≡ true
 unfolding same
-same-equal s t e = rw e (passes t)
-  where
-    passes : (u : Row) → same u u ≡ true
-    passes [] = refl
-    passes (x ∷ u) = rw (eq-eqb x x refl, passes u)
+same-refl [] = refl
+same-refl (x ∷ s) = rw (eq-eqb x x refl, same-refl s)
 
-and-true : (a b : Bool) → a && b ≡ true → (a ≡ true) × (b ≡ true)
-and-true true b e = (refl, e)
-and-true false b e = absurd (false≢true e)
+-- so on equal rows
+pub same-equal : (s t : Row) → s ≡ t → same s t ≡ true
+same-equal s t e = rw e (same-refl t)
 
 -- and only on these
 pub same-true : (s t : Row) → same s t ≡ true → s ≡ t

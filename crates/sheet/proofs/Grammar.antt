@@ -1,6 +1,6 @@
 -- The reader of a sheet means document 01's grammar: the header, then four numbers of 1 to 19 digits, single spaces between, ended by LF, nothing
 -- after. Every such text is read as its four numbers, and no other text is read. Assumes nothing.
-use Prim.Native.Nat.{ℕ, suc, _+_, _≤_, _<_}
+use Prim.Native.Nat.{ℕ, suc, _≤_, _<_}
 use native.Mathlib.Numerals.{add-one}
 use native.Mathlib.Omega.{arith}
 use mathlib.Core.Path.{_≡_, refl, sym, ap, _∙_}
@@ -16,7 +16,7 @@ use Rattle.sheet.specs.Text.{SPACE, LF, header, isDigit, valueFrom}
 use Rattle.sheet.specs.Asked.{leading, field, askedLine, asked}
 use Rattle.sheet.specs.declared.Asked.{Asked}
 use Rattle.sheet.specs.declared.Asked.the-variants.{Rows, Unreadable}
-use Rattle.sheet.proofs.Tests.{and-true}
+use Rattle.stirling.proofs.Refusals.{and-true}
 use Rattle.sheet.proofs.Reading.{leading-digit, leading-none, leading-split, leading-digits, good-holds, holds-good, field-value, field-rest}
 
 -- a number as it is written: 1 to 19 digits, leading zeros allowed

@@ -12,14 +12,14 @@ use lib.ListN.{length, take, drop, getD, length-drop, drop-of-length-le, List·g
 use lib.Seq.{drop-cons, take-all, take-nil, length-take-le}
 use borrow.Author.Tests.{eqb-true, eq-eqb}
 use Rattle.stirling.specs.Refusal.{within}
-use Rattle.stirling.proofs.Refusals.{within-holds, within-true}
+use Rattle.stirling.proofs.Refusals.{and-true, within-holds, within-true}
 use Rattle.perm.proofs.Tally.{refuted}
 use Rattle.sheet.specs.Text.{isDigit, valueFrom}
 use Rattle.sheet.specs.Asked.{leading, begins, field}
 use Rattle.sheet.specs.Found.{taken, found}
 use Rattle.sheet.specs.declared.Taken.{Taken}
 use Rattle.sheet.specs.declared.Found.the-variants.{Number, Nothing}
-use Rattle.sheet.proofs.Tests.{below, and-true}
+use Rattle.sheet.proofs.Tests.{below}
 
 -- a digit that a text begins with is the first of its leading digits
 pub leading-digit : (b : ℕ) (bs : List ℕ) → isDigit b ≡ true → leading (b ∷ bs) ≡ b ∷ leading bs

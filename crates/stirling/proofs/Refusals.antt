@@ -62,10 +62,13 @@ within-fails low high x out = by-low (leb low x) refl
     by-low true l = lt-leb x high (lt-of-not-le (out (leb-true low x l)))
     by-low false l = refl
 
+-- both of two tests pass
+pub and-true : (a b : Bool) → a && b ≡ true → (a ≡ true) × (b ≡ true)
+and-true true b e = (refl, e)
+and-true false b e = absurd (false≢true e)
+
 -- a number within low and high is from low to high
 pub within-true : (low high x : ℕ) → within low high x ≡ true → (low ≤ x) × (x ≤ high)
-within-true low high x e = by-low (leb low x) refl e
-  where
-    by-low : (b : Bool) → leb low x ≡ b → b && leb x high ≡ true → (low ≤ x) × (x ≤ high)
-    by-low true l h = (leb-true low x l, leb-true x high h)
-    by-low false l h = absurd (false≢true h)
+within-true low high x e =
+    let both = and-true (leb low x) (leb x high) e in
+    (leb-true low x (both .0), leb-true x high (both .1))
