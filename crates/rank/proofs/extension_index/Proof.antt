@@ -1,6 +1,5 @@
 -- `rank::extension_index` meets its contract: its tests tell the relations apart. Assumes nothing.
 use borrow.Author.Needs.{needs}
-use native.Mathlib.Omega.{arith}
 use Rattle.rank.proofs.Extension.{extends-at}
 use Rattle.rank.proofs.extension_index.Statement.{statement}
 use Rattle.rank.proofs.extension_index.Tie as tie
@@ -11,14 +10,7 @@ sub-result c = search needs
 returns : tie.Need-returns
 returns c =
     let s = c .before in
-    extends-at (s .args .n) (s .args .k) _ (s .pre .1) (s .pre .2)
-    (record {
-      by-a = λ h. omega arith;
-      by-b = λ h. omega arith;
-      by-c = λ h. omega arith;
-      by-d = λ l h. omega arith;
-      by-e = λ l h. omega arith;
-    })
+    extends-at (s .args .n) (s .args .k) _ (s .pre .1) (s .pre .2) (search needs)
 
 add-if2 : tie.Need-add-if2
 add-if2 c = search needs
@@ -26,14 +18,7 @@ add-if2 c = search needs
 returns-2 : tie.Need-returns-2
 returns-2 c =
     let s = c .before .before in
-    extends-at (s .args .n) (s .args .k) _ (s .pre .1) (s .pre .2)
-    (record {
-      by-a = λ h. omega arith;
-      by-b = λ h. omega arith;
-      by-c = λ h. omega arith;
-      by-d = λ l h. omega arith;
-      by-e = λ l h. omega arith;
-    })
+    extends-at (s .args .n) (s .args .k) _ (s .pre .1) (s .pre .2) (search needs)
 
 add-if3 : tie.Need-add-if3
 add-if3 c = search needs
@@ -41,14 +26,7 @@ add-if3 c = search needs
 returns-3 : tie.Need-returns-3
 returns-3 c =
     let s = c .before .before .before in
-    extends-at (s .args .n) (s .args .k) _ (s .pre .1) (s .pre .2)
-    (record {
-      by-a = λ h. omega arith;
-      by-b = λ h. omega arith;
-      by-c = λ h. omega arith;
-      by-d = λ l h. omega arith;
-      by-e = λ l h. omega arith;
-    })
+    extends-at (s .args .n) (s .args .k) _ (s .pre .1) (s .pre .2) (search needs)
 
 sub-result-2 : tie.Need-sub-result-2
 sub-result-2 c = search needs
@@ -56,14 +34,7 @@ sub-result-2 c = search needs
 returns-4 : tie.Need-returns-4
 returns-4 c =
     let s = c .before .before .before in
-    extends-at (s .args .n) (s .args .k) _ (s .pre .1) (s .pre .2)
-    (record {
-      by-a = λ h. omega arith;
-      by-b = λ h. omega arith;
-      by-c = λ h. omega arith;
-      by-d = λ l h. omega arith;
-      by-e = λ l h. omega arith;
-    })
+    extends-at (s .args .n) (s .args .k) _ (s .pre .1) (s .pre .2) (search needs)
 
 pub extension-index-spec : {M : Type 1} → statement M
 extension-index-spec =

@@ -4,7 +4,7 @@ use borrow.Author.Needs.{needs}
 use borrow.Author.Tests.{le-leb, lt-leb}
 use native.Mathlib.Omega.{arith}
 use mathlib.Core.Path.{_≡_}
-use Rattle.stirling.specs.Count.{checkCycles}
+use Rattle.stirling.specs.Count.{entryOf, checkCycles}
 use Rattle.stirling.proofs.Refusals.{then-stops}
 use Rattle.stirling.proofs.check_place_in.Statement.{statement}
 use Rattle.stirling.proofs.check_place_in.Tie as tie
@@ -22,13 +22,13 @@ returns-2 : tie.Need-returns-2
 returns-2 c =
     let a = c .before .before .before .before .before .args in
     let passed : checkCycles (a .n) (a .k) ≡ 0 = omega arith in
-    rw (passed, le-leb _ _ (rw (c .before .entry .ensures) at (c .if2 .taken)))
+    rw (passed, le-leb (entryOf (a .counts .now) (a .n) (a .k)) (a .place) (omega arith))
 
 returns-3 : tie.Need-returns-3
 returns-3 c =
     let a = c .before .before .before .before .before .args in
     let passed : checkCycles (a .n) (a .k) ≡ 0 = omega arith in
-    rw (passed, lt-leb _ _ (rw (c .before .entry .ensures) at (c .if2 .left)))
+    rw (passed, lt-leb (entryOf (a .counts .now) (a .n) (a .k)) (a .place) (omega arith))
 
 pub check-place-in-spec : {M : Type 1} → statement M
 check-place-in-spec = tie.close (tie.spec check-cycles-requires returns entry-requires returns-2 returns-3)
