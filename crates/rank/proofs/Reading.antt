@@ -1,5 +1,5 @@
 -- One step of a reading: the part of the slice without its last byte is read, and n is put in. Assumes nothing.
-use mathlib.Core.Path.{_≡_, refl, _∙_}
+use mathlib.Core.Path.{_≡_, refl, sym, _∙_}
 use Prim.Native.Nat.{ℕ, zero, suc, _-_, _≤_, _<_}
 use native.Mathlib.Omega.{arith}
 use mathlib.Core.Bool.{true, false}
@@ -10,7 +10,8 @@ use Rattle.stirling.specs.Count.{c}
 use Rattle.gray.specs.Order.{Row, S}
 use Rattle.gray.specs.Listing.{rowAt}
 use Rattle.rank.specs.declared.Source.{Source}
-use Rattle.rank.specs.Search.{sourceRow, Readable}
+use Rattle.rank.specs.Search.{grown, sourceRow, ComesFrom, Readable}
+use Rattle.rank.proofs.Reversed.{rowAt-reverse}
 
 -- a slice of no bytes is the one row of S(0,0), in either reading
 pub none-forward : (n k place : ℕ) (out : List ℕ) → n ≡ 0 → length out ≡ n → out ≡ rowAt (S n k) place
@@ -29,13 +30,30 @@ none-backward zero (suc k) place [] e l = refl
 none-backward zero k place (x ∷ out) e l = absurd (omega arith)
 none-backward (suc n) k place out e l = absurd (omega arith)
 
--- the part without the last byte may be read at any place of a list for n−1
-pub readable-part : {n k place cycles r : ℕ} (out : List ℕ)
-    → Readable n k place (length out)
+-- where a reading's source is found, the row that it leads to may be asked for
+pub leads : {n k place size r : ℕ} {s : Source}
+    → Readable n k place size
     → 1 ≤ n
+    → ComesFrom n k r s
+    → ((1 ≤ n) × (n ≤ 20) × (size ≡ n)) × ((1 ≤ s .position) × (s .position ≤ n) × (s .place < c (n - 1) (s .cycles)))
+leads w h source = ((h, w .small, w .lent), (source .position .0, source .position .1, source .below))
+
+-- read backward, that row is the one sought, where the source is that of the row with as many rows before it as come after the place
+pub led-backward : {n k place size total : ℕ} {s : Source} {row : Row}
+    → Readable n k place size
+    → total ≡ c n k
+    → ComesFrom n k (total - 1 - place) s
+    → row ≡ grown n (s .position) (sourceRow n s)
+    → row ≡ rowAt (reverse (S n k)) place
+led-backward {n} {k} {place} {total = total} w e source led =
+    led ∙ sym (rowAt-reverse n k place (total - 1 - place) (omega (arith, e, w .below)) ∙ source .row)
+
+-- the part without the last byte may be read at any place of a list for n−1
+pub readable-part : {n cycles r : ℕ} (out : List ℕ)
+    → (1 ≤ n) × (n ≤ 20) × (length out ≡ n)
     → r < c (n - 1) cycles
     → Readable (n - 1) cycles r (length (take (n - 1) out))
-readable-part {n} out w h l = record { small = omega arith; below = l; lent = length-take-le (n - 1) out (omega arith) }
+readable-part {n} out w l = record { small = omega arith; below = l; lent = length-take-le (n - 1) out (omega arith) }
 
 -- after the part is read, the slice without its last byte is a row
 pub record PartRead (n : ℕ) (row : Row) (out : List ℕ) : Type 0 where

@@ -1,5 +1,5 @@
 -- How a permutation's place is found from its transposition array: its last entry names a block of S(n,k), and the entries before it a row of the
--- shorter list that the block is made from. These are definitions; nothing is assumed.
+-- shorter list that the block is made from. Only private contracts cite them. These are definitions; nothing is assumed.
 use mathlib.Core.Path.{_≡_}
 use Prim.Native.Nat.{ℕ, _+_, _-_, _≤_, _<_}
 use mathlib.Core.Bool.{Bool, cond}

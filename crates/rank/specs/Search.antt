@@ -1,4 +1,4 @@
--- How a row of S(n,k) comes from a row of a shorter list: what the search for a place finds. These are definitions; nothing is assumed.
+-- How a row of S(n,k) comes from a row of a shorter list: what the search for a place finds. Only private contracts cite them. These are definitions; nothing is assumed.
 use mathlib.Core.Path.{_≡_}
 use Prim.Native.Nat.{ℕ, _-_, _≤_, _<_}
 use mathlib.Core.Bool.{cond}

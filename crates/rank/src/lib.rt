@@ -13,7 +13,7 @@ ghost use Rattle.perm.specs.Permutation.{at};
 ghost use Rattle.gray.specs.Order.{S};
 ghost use Rattle.gray.specs.Listing.{rowAt};
 ghost use Rattle.rank.specs.Place.{Unranked, Ranked, checkRowCount, rowsFrom, RowsWritten};
-ghost use Rattle.rank.specs.Search.{grown, sourceOf, ExtendsAt, ComesFrom, Readable};
+ghost use Rattle.rank.specs.Search.{grown, sourceOf, ExtendsAt, sourceRow, ComesFrom, Readable};
 ghost use Rattle.rank.specs.Ranking.{Occurs, IsPart, Rankable, PlaceIn};
 
 // The refusal of check 4.
@@ -117,6 +117,23 @@ fn grow(n: u64, i: u64, out: &mut [u8])
     out[at] = n as u8;
 }
 
+// The row of n values that a source leads to: the row that it comes from, read as the source says, with n put in.
+fn unrank_from(counts: &[u64], n: u64, source: Source, out: &mut [u8])
+    requires { ⌜ IsTable (now counts) ⌝ }
+    requires { ⌜ (1 ≤ n) × (n ≤ 20) × (length (now out) ≡ n) ⌝ }
+    requires { ⌜ (1 ≤ source .position) × (source .position ≤ n) × (source .place < c (n - 1) (source .cycles)) ⌝ }
+    ensures { λ _. ⌜ now (out .exit) ≡ grown n (source .position) (sourceRow n source) ⌝ }
+{
+    let m = n - 1;
+    let last = m as usize;
+    if source.backward {
+        unrank_backward(counts, m, source.cycles, source.place, &mut out[..last]);
+    } else {
+        unrank_forward(counts, m, source.cycles, source.place, &mut out[..last]);
+    }
+    grow(n, source.position, out);
+}
+
 // The row of S(n,k) at a place, read forward.
 fn unrank_forward(counts: &[u64], n: u64, k: u64, place: u64, out: &mut [u8])
     requires { ⌜ IsTable (now counts) ⌝ }
@@ -126,15 +143,7 @@ fn unrank_forward(counts: &[u64], n: u64, k: u64, place: u64, out: &mut [u8])
     if n == 0 {
         return;
     }
-    let source = source_at(counts, n, k, place);
-    let m = n - 1;
-    let last = m as usize;
-    if source.backward {
-        unrank_backward(counts, m, source.cycles, source.place, &mut out[..last]);
-    } else {
-        unrank_forward(counts, m, source.cycles, source.place, &mut out[..last]);
-    }
-    grow(n, source.position, out);
+    unrank_from(counts, n, source_at(counts, n, k, place), out);
 }
 
 // The row of S(n,k) at a place, read backward: place 0 is the last row.
@@ -146,15 +155,8 @@ fn unrank_backward(counts: &[u64], n: u64, k: u64, place: u64, out: &mut [u8])
     if n == 0 {
         return;
     }
-    let source = source_at(counts, n, k, stirling::entry(counts, n, k) - 1 - place);
-    let m = n - 1;
-    let last = m as usize;
-    if source.backward {
-        unrank_backward(counts, m, source.cycles, source.place, &mut out[..last]);
-    } else {
-        unrank_forward(counts, m, source.cycles, source.place, &mut out[..last]);
-    }
-    grow(n, source.position, out);
+    let forward = stirling::entry(counts, n, k) - 1 - place;
+    unrank_from(counts, n, source_at(counts, n, k, forward), out);
 }
 
 // The permutation at a place of S(n,k), written to `out`. Refusals in document 01's order; a refused call writes nothing.
@@ -195,18 +197,16 @@ fn part_with(counts: &[u64], n: u64, k: u64, i: u64) -> Part
     }
 }
 
-// The place in S(n,k), read forward, of the permutation of a transposition array of n entries.
-fn rank_forward(counts: &[u64], a: &[u8], k: u64) -> u64
+// The place in S(n,k) of the permutation of a transposition array that has an entry: the last entry names a part, and the entries before it the place
+// within the part, as it is read.
+fn rank_within(counts: &[u64], a: &[u8], k: u64) -> u64
     requires { ⌜ IsTable (now counts) ⌝ }
+    requires { ⌜ 1 ≤ length (now a) ⌝ }
     requires { ⌜ Rankable (now a) k ⌝ }
     ensures { λ r. ⌜ PlaceIn false (now (a .entry)) k r ⌝ }
 {
-    let n = a.len();
-    if n == 0 {
-        return 0;
-    }
-    let last = n - 1;
-    let part = part_with(counts, n as u64, k, a[last] as u64);
+    let last = a.len() - 1;
+    let part = part_with(counts, a.len() as u64, k, a[last] as u64);
     let inner = if part.backward {
         rank_backward(counts, &a[..last], part.cycles)
     } else {
@@ -215,24 +215,29 @@ fn rank_forward(counts: &[u64], a: &[u8], k: u64) -> u64
     part.start + inner
 }
 
+// The place in S(n,k), read forward, of the permutation of a transposition array of n entries.
+fn rank_forward(counts: &[u64], a: &[u8], k: u64) -> u64
+    requires { ⌜ IsTable (now counts) ⌝ }
+    requires { ⌜ Rankable (now a) k ⌝ }
+    ensures { λ r. ⌜ PlaceIn false (now (a .entry)) k r ⌝ }
+{
+    if a.len() == 0 {
+        return 0;
+    }
+    rank_within(counts, a, k)
+}
+
 // The place in S(n,k), read backward, of the permutation of a transposition array of n entries: place 0 is the last row.
 fn rank_backward(counts: &[u64], a: &[u8], k: u64) -> u64
     requires { ⌜ IsTable (now counts) ⌝ }
     requires { ⌜ Rankable (now a) k ⌝ }
     ensures { λ r. ⌜ PlaceIn true (now (a .entry)) k r ⌝ }
 {
-    let n = a.len();
-    if n == 0 {
+    if a.len() == 0 {
         return 0;
     }
-    let last = n - 1;
-    let part = part_with(counts, n as u64, k, a[last] as u64);
-    let inner = if part.backward {
-        rank_backward(counts, &a[..last], part.cycles)
-    } else {
-        rank_forward(counts, &a[..last], part.cycles)
-    };
-    stirling::entry(counts, n as u64, k) - 1 - (part.start + inner)
+    let forward = rank_within(counts, a, k);
+    stirling::entry(counts, a.len() as u64, k) - 1 - forward
 }
 
 // How many entries i of a transposition array are i itself: the number of cycles of its permutation.

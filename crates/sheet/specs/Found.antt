@@ -1,4 +1,4 @@
--- What the readers of a number give, for every text. These are definitions; nothing is assumed.
+-- What the readers of a number give, for every text. Only private contracts cite them. These are definitions; nothing is assumed.
 use Prim.Native.Nat.{ℕ, _+_}
 use mathlib.Core.Bool.{cond}
 use mathlib.Core.List.{List}
