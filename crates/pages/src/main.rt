@@ -1,10 +1,11 @@
 // Pages through lists by a cursor and prints a line for each place met: n, k and the place, the permutation, its transposition array, and the three
 // positions of the step that the cursor makes from there. First every list for n up to 7, forward; then every list for n up to 5, back from its end; then
-// jumps about the lists for n = 6; then a jump to the end of each list for n from 8 to 20 and one to its beginning. `stdout` comes from another author's
-// generator.
+// jumps about the lists for n = 6; then a jump to the end of each list for n from 8 to 20 and one to its beginning; then jumps to the random places that
+// `stdin` names, ten bytes each: n, k and the place, its highest byte first. `stdout` comes from another author's generator.
 use cursor::Answer;
 use cursor::Cursor;
-ghost use Prim.Native.Nat.{_≤_};
+use libc::STDIN_FILENO;
+ghost use Prim.Native.Nat.{_≤_, _<_};
 
 // The first n bytes, each after a space.
 fn print_first(list: [u8; 20], n: u64) {
@@ -147,9 +148,59 @@ fn pages_from(kind: u8, first: u64, last: u64)
     }
 }
 
+// A byte as a larger number.
+fn wide(byte: u8) -> u64
+    ensures { λ r. ⌜ r < 256 ⌝ }
+{
+    byte as u64
+}
+
+// 2^55: eight more bits fit.
+const LARGE: u64 = 36028797018963968;
+
+// A place that is named by eight bytes, the highest first, and is below 2^63.
+fn place_of(bytes: &[u8]) -> u64 {
+    let mut place: u64 = 0;
+    let mut i = 0;
+    while i < bytes.len() {
+        if place < LARGE {
+            place = place * 256 + wide(bytes[i]);
+        }
+        i += 1;
+    }
+    place
+}
+
+// A jump to the place that ten bytes name.
+fn jump_to(sample: &[u8]) {
+    if sample.len() == 10 {
+        let place = place_of(&sample[2..]);
+        let w = Cursor::open(wide(sample[0]), wide(sample[1])).cursor;
+        print_forward(w.jump(place).cursor);
+    }
+}
+
+// The same for all of a text.
+fn jump_to_samples(text: &[u8]) {
+    let mut at = 0;
+    while at + 10 <= text.len() {
+        let end = at + 10;
+        jump_to(&text[at..end]);
+        at = end;
+    }
+}
+
+// The samples of standard input.
+fn read_samples() {
+    let mut text = [0u8; 10000];
+    let size = io::read_full(STDIN_FILENO, &mut text);
+    jump_to_samples(&text[..size]);
+}
+
 fn main() {
     pages_from(1, 1, 7);
     pages_from(2, 1, 5);
     pages_from(3, 6, 6);
     pages_from(4, 8, 20);
+    read_samples();
 }
