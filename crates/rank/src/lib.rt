@@ -256,7 +256,7 @@ fn fixed_entries(a: &[u8]) -> u64
 }
 
 // A refusal, with zeros.
-fn refused(refusal: u8) -> Standing
+fn nowhere(refusal: u8) -> Standing
     ensures { λ r. ⌜ (r .refusal ≡ refusal) × (r .k ≡ 0) × (r .place ≡ 0) ⌝ }
 {
     Standing {
@@ -274,12 +274,12 @@ pub fn rank(s: &[u8]) -> Standing
     let n = s.len();
     let size_refusal = stirling::check_size(n as u64);
     if size_refusal != 0 {
-        return refused(size_refusal);
+        return nowhere(size_refusal);
     }
     let mut array = [0u8; 20];
     let array_refusal = perm::to_array(s, &mut array[..n]);
     if array_refusal != 0 {
-        return refused(array_refusal);
+        return nowhere(array_refusal);
     }
     let entries = &array[..n];
     let k = fixed_entries(entries);

@@ -62,7 +62,9 @@ returns c =
     let start = c .before .before .before .before .before .before in
     let made = c .before .before .before .before .before in
     let answer = c .step-between .ensures in
-    rw (made .cursor-at .ensures, answer, old-row start, new-row made)
+    let cursor = made .cursor-at .ensures in
+    let steps = rw (old-row start, new-row made) at answer in
+    λ i. record { cursor = cursor i; answer = steps i }
 
 pub step-to-spec : {M : Type 1} → statement M
 step-to-spec =

@@ -28,14 +28,14 @@ is-refused s r t e h w = record {
 check-size-requires : tie.Need-check-size-requires
 check-size-requires c κs = search needs
 
-refused-requires : tie.Need-refused-requires
-refused-requires c κs = search needs
+nowhere-requires : tie.Need-nowhere-requires
+nowhere-requires c κs = search needs
 
 returns : tie.Need-returns
 returns c =
     let t = c .before in
     let s = t .before .before .before .args .s .now in
-    is-refused s _ _ (size-refused s _ (t .before .check-size .ensures) (t .if1 .taken)) (t .if1 .taken) (c .refused .ensures)
+    is-refused s _ _ (size-refused s _ (t .before .check-size .ensures) (t .if1 .taken)) (t .if1 .taken) (c .nowhere .ensures)
 
 -- past check 1
 abbrev given : tie.Else1 → List ℕ
@@ -53,15 +53,15 @@ slice-aggregate-to-array c = sym (front-lent (given (c .before)) (passed (c .bef
 to-array-requires : tie.Need-to-array-requires
 to-array-requires c κs = search needs
 
-refused-requires-2 : tie.Need-refused-requires-2
-refused-requires-2 c κs = search needs
+nowhere-requires-2 : tie.Need-nowhere-requires-2
+nowhere-requires-2 c κs = search needs
 
 returns-2 : tie.Need-returns-2
 returns-2 c =
     let t = c .before in
     let w = t .before .before in
     let e = w .before .before in
-    is-refused (given e) _ _ (array-refusal (given e) (passed e) blank refl (w .to-array .ensures)) (t .if2 .taken) (c .refused2 .ensures)
+    is-refused (given e) _ _ (array-refusal (given e) (passed e) blank refl (w .to-array .ensures)) (t .if2 .taken) (c .nowhere2 .ensures)
 
 array-share-prefix-array : tie.Need-array-share-prefix-array
 array-share-prefix-array c =
@@ -111,12 +111,12 @@ rank-spec =
     tie.close
     (tie.spec
     check-size-requires
-    refused-requires
+    nowhere-requires
     returns
     array-borrow-prefix-array
     slice-aggregate-to-array
     to-array-requires
-    refused-requires-2
+    nowhere-requires-2
     returns-2
     array-share-prefix-array
     slice-aggregate-entries
