@@ -2,8 +2,12 @@
  * non-null value where the length is 0. Every call takes any numbers and any bytes: what it cannot serve it refuses,
  * with zeros for the rest of its result and no byte written.
  *
- * Refusals: 0 none; 1 n is not 1 to 20; 2 k is not 1 to n; 3 place >= c(n,k); 4 m is not 1 to 1000, or more rows than
- * are left; 5 a written slice has not the length asked for; 6 a value or an entry out of range; 7 a value twice. */
+ * n is 0 to 20. With n = 0, k is 0, and S(0,0) holds the one permutation of nothing, no bytes at place 0; with n from 1
+ * on, k is 1 to n.
+ *
+ * Refusals: 0 none; 1 n is more than 20; 2 k is not 1 to n, or with n = 0 not 0; 3 place >= c(n,k); 4 m is not 1 to 1000,
+ * or more rows than are left; 5 a written slice has not the length asked for; 6 a value or an entry out of range; 7 a
+ * value twice. */
 #ifndef OSIERDRUM_H
 #define OSIERDRUM_H
 

@@ -1,8 +1,9 @@
 //! Every permutation of n with exactly k cycles, in Baril's Gray-code order, by place.
 //!
-//! S(n,k) is the list of all permutations of n with exactly k cycles, for n from 1 to 20; neighbours in it, last and
+//! S(n,k) is the list of all permutations of n with exactly k cycles, for n from 0 to 20; neighbours in it, last and
 //! first too, differ on three positions. A permutation is n bytes, the value at each position; values, positions and
-//! cycles count from 1, places from 0.
+//! cycles count from 1, places from 0. With n = 0, k is 0, and the list holds the one permutation of nothing, no bytes
+//! at place 0; with n from 1 on, k is 1 to n.
 //!
 //! The work is done by `libosierdrum.a`, whose every function is proved to meet its contract for all inputs. Nothing
 //! that is handed in can make a call read or write outside its slices or fail to return; what a call cannot serve it
@@ -35,9 +36,9 @@ use std::{error::Error, fmt};
 #[derive(Clone, Copy, Debug, PartialEq, Eq, Hash, PartialOrd, Ord)]
 #[repr(u8)]
 pub enum Refusal {
-    /// 1: n, or a read slice's length as n, is not 1 to 20.
+    /// 1: n, or a read slice's length as n, is more than 20.
     Size = 1,
-    /// 2: k is not 1 to n.
+    /// 2: k is not 1 to n, or with n = 0 not 0.
     Cycles = 2,
     /// 3: the place is c(n,k) or more.
     Place = 3,
@@ -67,8 +68,8 @@ impl Refusal {
 impl fmt::Display for Refusal {
     fn fmt(&self, f: &mut fmt::Formatter<'_>) -> fmt::Result {
         let why = match self {
-            Refusal::Size => "n is not 1 to 20",
-            Refusal::Cycles => "k is not 1 to n",
+            Refusal::Size => "n is more than 20",
+            Refusal::Cycles => "k is not 1 to n, or with n = 0 not 0",
             Refusal::Place => "the place is past the end of the list",
             Refusal::Rows => "the number of rows is not 1 to 1000, or more than are left",
             Refusal::Lent => "a lent slice has not the length that is asked for",
@@ -102,6 +103,7 @@ pub struct Rank {
 ///
 /// ```
 /// assert_eq!(osierdrum::count(5, 2), Ok(50));
+/// assert_eq!(osierdrum::count(0, 0), Ok(1)); // the one permutation of nothing
 /// ```
 pub fn count(n: u64, k: u64) -> Result<u64, Refusal> {
     // SAFETY: the call takes and returns plain numbers.

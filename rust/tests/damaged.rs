@@ -102,7 +102,7 @@ fn numbers_in_rows() {
 #[test]
 fn offsets_in_rows() {
     let reference = Reference::new();
-    for (n, k, place, m) in [(5, 2, 0, 50), (5, 2, 49, 1), (20, 10, 12345, 3), (1, 1, 0, 1)] {
+    for (n, k, place, m) in [(5, 2, 0, 50), (5, 2, 49, 1), (20, 10, 12345, 3), (1, 1, 0, 1), (0, 0, 0, 1)] {
         for size in 0..=260 {
             for o in (0..=size as u64 + 2).step_by(3).chain([size as u64, size as u64 + 1, u64::MAX]) {
                 same(size, |buf| rows(n, k, place, m, o, buf), |buf| reference.rows(n, k, place, m, o, buf));

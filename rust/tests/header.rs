@@ -1,4 +1,4 @@
-//! The C header, by a C program that makes each call once: compiled with the system's compiler and linked with the same archive.
+//! The C header, by a C program that makes each call, and each again with n = 0: compiled with the system's compiler and linked with the same archive.
 
 use std::{env, path::PathBuf, process::Command};
 

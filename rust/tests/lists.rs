@@ -25,8 +25,8 @@ fn agrees(n: u64, k: u64, place: u64, row: &[u8]) {
 
 #[test]
 fn every_row_up_to_eight() {
-    for n in 1..=8u64 {
-        for k in 1..=n {
+    for n in 0..=8u64 {
+        for k in n.min(1)..=n {
             let expected = list(n as usize, k as usize);
             assert_eq!(count(n, k), Ok(expected.len() as u64));
             for (place, row) in expected.iter().enumerate() {
@@ -45,8 +45,8 @@ fn every_row_up_to_eight() {
 fn random_places_up_to_twenty() {
     let reference = Reference::new();
     let mut random = Random(1);
-    for n in 1..=20u64 {
-        for k in 1..=n {
+    for n in 0..=20u64 {
+        for k in n.min(1)..=n {
             let most = count(n, k).unwrap();
             assert_eq!(reference.count(n, k), Ok(most));
             for place in [0, most / 2, most - 1].into_iter().chain((0..200).map(|_| random.below(most))) {
@@ -61,8 +61,8 @@ fn random_places_up_to_twenty() {
 
 #[test]
 fn counts_as_stored() {
-    for (n, line) in include_str!("vectors/counts.txt").lines().enumerate().skip(1) {
-        for (k, stored) in line.split(' ').enumerate().skip(1) {
+    for (n, line) in include_str!("vectors/counts.txt").lines().enumerate() {
+        for (k, stored) in line.split(' ').enumerate().skip(n.min(1)) {
             assert_eq!(count(n as u64, k as u64), Ok(stored.parse().unwrap()));
         }
     }

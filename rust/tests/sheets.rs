@@ -44,9 +44,10 @@ fn rows(n: u64, k: u64, first: u64, m: u64) -> Result<String, u8> {
     reference.rows(n, k, first, m, 0, &mut bytes)?;
     let mut text = String::from("place");
     (1..=n).for_each(|position| text += &format!(" road{position}"));
-    for (place, row) in (first..).zip(bytes.chunks_exact(n as usize)) {
-        text += &format!("\n{place}");
-        row.iter().for_each(|value| text += &format!(" {value}"));
+    let n = n as usize;
+    for i in 0..m as usize {
+        text += &format!("\n{}", first + i as u64);
+        bytes[i * n..][..n].iter().for_each(|value| text += &format!(" {value}"));
     }
     Ok(text + "\n")
 }
@@ -82,7 +83,13 @@ fn the_example_of_document_01() {
 fn refusals() {
     for (line, refusal) in [
         ("21 1 0 1", 1),
-        ("0 0 0 1", 1),
+        ("0 1 0 1", 2),
+        ("0 0 1 1", 3),
+        ("0 0 0 2", 4),
+        ("0 0 0 0", 4),
+        ("0 1 1 2", 2),
+        ("0 0 1 2", 3),
+        ("1 0 0 1", 2),
         ("4 0 0 1", 2),
         ("4 5 0 1", 2),
         ("4 2 11 1", 3),
@@ -106,6 +113,7 @@ fn refusals() {
 
 #[test]
 fn served() {
+    assert_eq!(same(sheet("0 0 0 1").as_bytes()), "place\n0\n");
     for line in ["1 1 0 1", "5 2 49 1", "20 20 0 1", "20 1 0 1000", "04 002 0000000000000000005 03", "7 3 0 1000", "10 4 123456 7"] {
         let answer = same(sheet(line).as_bytes());
         assert!(answer.starts_with("place road1"), "{line}: {answer}");
@@ -186,7 +194,7 @@ fn long_texts() {
 #[test]
 fn damaged_at_random() {
     let mut random = Random(11);
-    let lines = ["4 2 5 3", "1 1 0 1", "12 5 1000000 4", "20 20 0 1"];
+    let lines = ["4 2 5 3", "0 0 0 1", "1 1 0 1", "12 5 1000000 4", "20 20 0 1"];
     let mut served = 0;
     for _ in 0..1500 {
         let mut text = sheet(lines[random.below(lines.len() as u64) as usize]).into_bytes();

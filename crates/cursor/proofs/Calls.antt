@@ -6,35 +6,38 @@ use mathlib.Core.List.{List, [], _∷_}
 use Prim.Native.Nat.{ℕ, zero, suc, _+_, _≤_, _<_}
 use native.Mathlib.Omega.{arith}
 use lib.Dec.{leb}
-use borrow.Author.Tests.{lt-ltb, leb-false}
+use borrow.Author.Tests.{lt-leb, leb-false}
 use Rattle.stirling.specs.Refusal.{unless}
-use Rattle.stirling.specs.Count.{c, checkCycles}
-use Rattle.stirling.proofs.Refusals.{refuse-passed, within-holds}
-use Rattle.stirling.proofs.Counts.{cycles-passed, positive}
+use Rattle.stirling.specs.Count.{c, checkCycles, checkPlace}
+use Rattle.stirling.proofs.Refusals.{refuse-passed}
+use Rattle.stirling.proofs.Counts.{cycles-passes, cycles-passed, place-passed}
 use Rattle.gray.proofs.Same.{same-refl}
 use Rattle.cursor.specs.Machine.{Machine, Call, forward, back, jump, show, observe, refusalOf, destination, moved, turn, turned, machineRun}
 use Rattle.cursor.specs.Walk.{sound, called, start, opened, callsRun, walkRun, plainRun}
 
 -- a machine on a place of a list
 pub record OnPlace (m : Machine) : Type 0 where
-  pub size : (1 ≤ m .n) × (m .n ≤ 20)
-  pub cycles : (1 ≤ m .k) × (m .k ≤ m .n)
+  pub cycles : checkCycles (m .n) (m .k) ≡ 0
   pub below : m .place < c (m .n) (m .k)
 
 -- and on another place of the same list
 pub on-moved : (m : Machine) → OnPlace m → (place : ℕ) → place < c (m .n) (m .k) → OnPlace (moved m place)
-on-moved m on place h = record { size = on .size; cycles = on .cycles; below = h }
+on-moved m on place h = record { cycles = on .cycles; below = h }
+
+-- where n, k and the place pass the checks 1, 2 and 3
+pub on-passes : (m : Machine) → OnPlace m → checkPlace (m .n) (m .k) (m .place) ≡ 0
+on-passes m on = rw (on .cycles, lt-leb (c (m .n) (m .k)) (m .place) (on .below))
+
+-- and only there
+pub placed : (n k place : ℕ) → checkPlace n k place ≡ 0 → OnPlace (moved (start n k) place)
+placed n k place e =
+    let (small, below) = place-passed n k place e in
+    record { cycles = cycles-passes n k place small below; below = below }
 
 -- a record that shows a machine on its place passes check 8
 pub sound-observe : (m : Machine) → OnPlace m → sound (observe m) ≡ true
 unfolding sound observe
-sound-observe m on =
-    simp (
-      within-holds 1 20 (m .n) (on .size .0) (on .size .1),
-      within-holds 1 (m .n) (m .k) (on .cycles .0) (on .cycles .1),
-      lt-ltb (m .place) (c (m .n) (m .k)) (on .below),
-      same-refl,
-    )
+sound-observe m on = simp (on-passes m on, same-refl)
 
 -- a call on it gives what the machine shows after the call
 pub called-observe : (m : Machine) (call : Call) → OnPlace m → called (observe m) call ≡ turned m call
@@ -73,9 +76,7 @@ calls-run m (call ∷ calls) on =
 
 -- place 0 is a place of every list that open does not refuse
 pub start-on : (n k : ℕ) → checkCycles n k ≡ 0 → OnPlace (start n k)
-start-on n k e =
-    let (l, h, l′, h′) = cycles-passed n k e in
-    record { size = (l, h); cycles = (l′, h′); below = positive n k l′ h′ }
+start-on n k e = record { cycles = e; below = cycles-passed n k e .1 }
 
 -- demand 3, the calls: for all n, k that open does not refuse and every list of calls
 pub calls : (n k : ℕ) → checkCycles n k ≡ 0 → (cs : List Call) → walkRun n k cs ≡ plainRun n k cs

@@ -4,7 +4,7 @@ use mathlib.Core.Bool.{Bool, true, false, not}
 use Prim.Native.Nat.{ℕ, suc, _^_, _<_}
 use borrow.Author.Tests.{not-true, not-false}
 use Rattle.stirling.specs.Count.{c, lookupOf}
-use Rattle.stirling.proofs.Counts.{looked-up, fits}
+use Rattle.stirling.proofs.Counts.{cycles-passed, looked-up, fits}
 use Rattle.cursor.specs.Machine.{Call, show, observe, refusalOf, destination, moved, turn, bare, given, answered}
 use Rattle.cursor.specs.Walk.{machineOf, sound, called}
 use Rattle.cursor.specs.declared.Cursor.{Cursor}
@@ -57,4 +57,5 @@ called-shows w e = called-moves w show e refl ∙ ap (λ (v : Cursor). record { 
 pub sound-count : (w : Cursor) → sound w ≡ true → (lookupOf (w .n) (w .k) ≡ c (w .n) (w .k)) × (w .place < c (w .n) (w .k)) × (c (w .n) (w .k) < 2 ^ 64)
 sound-count w e =
     let on = sound-on w e in
-    (looked-up (w .n) (w .k) (on .size .1), on .below, fits (w .n) (w .k) (on .size .1))
+    let (small, _) = cycles-passed (w .n) (w .k) (on .cycles) in
+    (looked-up (w .n) (w .k) small, on .below, fits (w .n) (w .k) small)

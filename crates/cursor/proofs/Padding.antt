@@ -6,8 +6,8 @@ use native.Mathlib.Omega.{arith}
 use lib.ListN.{length, take, drop, replicate, length-append}
 use lib.Seq.{take-at, length-take-le}
 use borrow.Author.Tests.{eq-eqb}
-use Rattle.stirling.specs.Count.{checkPlace}
-use Rattle.stirling.proofs.Counts.{size-passes, place-passed}
+use Rattle.stirling.specs.Count.{checkSize, checkPlace}
+use Rattle.stirling.proofs.Counts.{size-passed, place-passed}
 use Rattle.perm.specs.Permutation.{IsPermutation}
 use Rattle.perm.specs.Array.{arrayOf}
 use Rattle.perm.specs.Checks.{checkLent, ToArray}
@@ -18,7 +18,7 @@ use Rattle.gray.specs.Listing.{rowAt}
 use Rattle.rank.specs.Place.{Unranked}
 use Rattle.cursor.specs.Machine.{Machine, padded, rowOf, observe, moved}
 use Rattle.cursor.specs.Walk.{start}
-use Rattle.cursor.proofs.Calls.{OnPlace}
+use Rattle.cursor.proofs.Calls.{OnPlace, placed}
 use Rattle.cursor.proofs.Steps.{row-permutation}
 
 -- zeros without the first of them
@@ -39,13 +39,7 @@ front-padded {n} s e h = rw (drop-zeros 20 n h, e)
 pub take-padded : {n : ℕ} (s : List ℕ) → length s ≡ n → take n (padded s) ≡ s
 take-padded {n} s e = take-at s (replicate (20 - length s) 0) n e
 
--- the machine at a place that is not refused is on it
-pub placed : (n k place : ℕ) → checkPlace n k place ≡ 0 → OnPlace (moved (start n k) place)
-placed n k place e =
-    let (l, h, l′, h′, below) = place-passed n k place e in
-    record { size = (l, h); cycles = (l′, h′); below = below }
-
--- and its row is a permutation
+-- the row at a place that is not refused is a permutation
 pub row-placed : (n k place : ℕ) → checkPlace n k place ≡ 0 → IsPermutation n (rowAt (S n k) place)
 row-placed n k place e = row-permutation (moved (start n k) place) (placed n k place e)
 
@@ -68,14 +62,14 @@ pub row-padded : {n k place r : ℕ} {before after : List ℕ} → checkPlace n 
     → after ++ drop n (replicate 20 0) ≡ padded (rowAt (S n k) place)
 row-padded {n} {k} {place} {r} {before} e z u =
     let zero : r ≡ 0 = rw (e, lent-passes before z) at (u .refusal) in
-    rw (u .written zero) (front-padded (rowAt (S n k) place) (row-placed n k place e .size) (placed n k place e .size .1))
+    rw (u .written zero) (front-padded (rowAt (S n k) place) (row-placed n k place e .size) (place-passed n k place e .0))
 
 -- the array that is written to the front
-pub array-padded : {n r : ℕ} {s before after : List ℕ} → 1 ≤ n → n ≤ 20 → IsPermutation n s → length before ≡ n → ToArray s before r after
+pub array-padded : {n r : ℕ} {s before after : List ℕ} → checkSize n ≡ 0 → IsPermutation n s → length before ≡ n → ToArray s before r after
     → after ++ drop n (replicate 20 0) ≡ padded (arrayOf n s)
-array-padded {n} {r} {s} {before} {after} l h p z t =
+array-padded {n} {r} {s} {before} {after} e p z t =
     let y = p .size in
-    let size = size-passes (length s) (omega arith) (omega arith) in
+    let size : checkSize (length s) ≡ 0 = rw y e in
     let zero : r ≡ 0 = rw (size, lent-passes {n = length s} before (omega arith), passes-values p, passes-twice p) at (t .refusal) in
     let a = t .written zero in
-    rw (← is-array-of a p) (front-padded after (a .array .size ∙ p .size) h)
+    rw (← is-array-of a p) (front-padded after (a .array .size ∙ p .size) (size-passed n e))

@@ -2,10 +2,10 @@
 use Prim.Native.Nat.{ℕ}
 use mathlib.Core.Bool.{Bool, not, cond, _&&_}
 use mathlib.Core.List.{List, [], _∷_}
-use lib.Dec.{eqb, ltb}
+use lib.Dec.{eqb}
 use lib.ListN.{replicate}
-use Rattle.stirling.specs.Refusal.{refuse, unless, within}
-use Rattle.stirling.specs.Count.{c, checkCycles}
+use Rattle.stirling.specs.Refusal.{refuse, unless}
+use Rattle.stirling.specs.Count.{checkCycles, checkPlace}
 use Rattle.perm.specs.Lists.{same}
 use Rattle.cursor.specs.Machine.{Machine, Call, forward, back, jump, show, observe, turned, machineRun, bare}
 use Rattle.cursor.specs.declared.Cursor.{Cursor}
@@ -15,10 +15,10 @@ use Rattle.cursor.specs.declared.Step.{Step}
 abbrev pub machineOf : Cursor → Machine
 machineOf w = record { n = w .n; k = w .k; place = w .place }
 
--- n, k and place in range, and permutation and array, with the zeros after the n-th byte, those of that place
+-- n, k and place in range, as the checks 1, 2 and 3 have it, and permutation and array, with the zeros after the n-th byte, those of that place
 unfoldable pub sound : Cursor → Bool
 sound w =
-    within 1 20 (w .n) && within 1 (w .n) (w .k) && ltb (w .place) (c (w .n) (w .k))
+    eqb (checkPlace (w .n) (w .k) (w .place)) 0
     && same (w .perm) (observe (machineOf w) .perm) && same (w .array) (observe (machineOf w) .array)
 
 -- check 8
@@ -32,7 +32,7 @@ called w call = unless (checkRecord w) (turned (machineOf w) call) (record { cur
 abbrev pub start : ℕ → ℕ → Machine
 start n k = record { n = n; k = k; place = 0 }
 
--- a walk of zeros
+-- a walk of zeros: what a refused open hands back, and the walk of the one permutation of nothing
 abbrev pub zeros : Cursor
 zeros = record { n = 0; k = 0; place = 0; perm = replicate 20 0; array = replicate 20 0 }
 

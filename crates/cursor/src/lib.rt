@@ -1,9 +1,9 @@
 // A cursor that walks through S(n,k): a record handed over by value and handed back.
 ghost use mathlib.Core.Path.{_≡_};
 ghost use mathlib.Core.Bool.{true};
-ghost use Prim.Native.Nat.{_≤_, _<_};
+ghost use Prim.Native.Nat.{_<_};
 ghost use lib.ListN.{length, getD, take};
-ghost use Rattle.stirling.specs.Count.{c, checkPlace};
+ghost use Rattle.stirling.specs.Count.{c, checkSize, checkPlace};
 ghost use Rattle.perm.specs.Lists.{same};
 ghost use Rattle.perm.specs.Permutation.{IsPermutation};
 ghost use Rattle.perm.specs.Array.{position, arrayOf};
@@ -82,7 +82,7 @@ fn row_at(n: u64, k: u64, place: u64) -> [u8; 20]
 
 // The array of the permutation of n in the first bytes, filled up with zeros.
 fn array_of(n: u64, row: [u8; 20]) -> [u8; 20]
-    requires { ⌜ (1 ≤ n) × (n ≤ 20) × IsPermutation n (take n row) ⌝ }
+    requires { ⌜ (checkSize n ≡ 0) × IsPermutation n (take n row) ⌝ }
     ensures { λ r. ⌜ r ≡ padded (arrayOf n (take n row)) ⌝ }
 {
     let size = n as usize;
@@ -214,7 +214,8 @@ fn step_to(w: Cursor, place: u64) -> Step
 }
 
 impl Cursor {
-    // A walk from place 0 of S(n,k). Refusals 1 and 2; a refused open hands back a walk of zeros.
+    // A walk from place 0 of S(n,k). Refusals 1 and 2; a refused open hands back a walk of zeros. That is also the walk of the empty list, n = 0 with
+    // k = 0, so only the refusal tells a refused open: a record of zeros does not.
     pub fn open(n: u64, k: u64) -> Step
         ensures { λ r. ⌜ r ≡ opened n k ⌝ }
     {

@@ -7,7 +7,7 @@ use mathlib.Core.List.{List}
 use lib.Dec.{eqb}
 use lib.ListN.{length}
 use Rattle.stirling.specs.Count.{c, countOf, checkCycles}
-use Rattle.stirling.proofs.Counts.{cycles-passes, fits}
+use Rattle.stirling.proofs.Counts.{cycles-passed, fits}
 use Rattle.perm.specs.Lists.{tally, positions}
 use Rattle.perm.specs.Permutation.{IsPermutation, at, distance}
 use Rattle.perm.specs.Cycle.{cycles}
@@ -27,12 +27,13 @@ use Rattle.cursor.specs.Walk.{walkRun, plainRun}
 use Rattle.cursor.proofs.Calls as Calls
 use Rattle.cursor.proofs.Calls.{OnPlace}
 use Rattle.cursor.proofs.Steps as Steps
+use Rattle.cursor.proofs.Cases as Walks
 
 -- ---- Demand 2: the counts, the lists, the places and the transposition arrays equal those of relations (a) to (e), from place to permutation and back
 
--- the counts: for 1 ≤ k ≤ n ≤ 20 the call Count serves c(n,k), which fits 64 bits and is the length of S(n,k)
-pub counts : (n k : ℕ) → 1 ≤ k → k ≤ n → n ≤ 20 → (countOf n k ≡ record { refusal = 0; count = c n k }) × (c n k < 2 ^ 64) × (length (S n k) ≡ c n k)
-counts n k low high most = (rw (cycles-passes n k most low high), fits n k most, Once.length-S n k)
+-- the counts: for all n and k that the checks 1 and 2 pass the call Count serves c(n,k), which fits 64 bits and is the length of S(n,k)
+pub counts : (n k : ℕ) → checkCycles n k ≡ 0 → (countOf n k ≡ record { refusal = 0; count = c n k }) × (c n k < 2 ^ 64) × (length (S n k) ≡ c n k)
+counts n k e = (rw e, fits n k (cycles-passed n k e .0), Once.length-S n k)
 
 -- from place to permutation and back: a permutation written for a place of S(n,k) is ranked k and that place
 pub place-to-place : {n k place : ℕ} {before after : List ℕ} → Unranked n k place before 0 after
@@ -74,7 +75,7 @@ pub steps : (m : Machine) (call : Call) → OnPlace m → Steps call → refusal
     → IsStep (m .n) (rowOf m) (rowOf (turn m call)) (answered m call .i) (answered m call .j) (answered m call .l)
 steps = Steps.steps
 
--- ---- Demand 3, second half: the lists. For all n and k, so for all with 1 ≤ k ≤ n ≤ 20
+-- ---- Demand 3, second half: the lists. For all n and k, so for all that the checks pass, n = 0 with k = 0 among them
 
 -- S(n,k) holds every permutation of n with exactly k cycles, counted by following, exactly once, and nothing else
 pub complete : (n k : ℕ) → Complete n k (S n k)
@@ -92,7 +93,11 @@ closed = Neighbours.closed
 pub three-apart : (n k : ℕ) (s t : Row) → HasCycles n k s → HasCycles n k t → (s ≡ t → ⊥) → 3 ≤ distance s t
 three-apart n k s t p q different = Apart.three-apart (p .permutation) (q .permutation) (p .count ∙ sym (q .count)) different
 
--- ---- Document 01's "What is proved of the cases", with its edges
+-- ---- Document 01's "What is proved of the cases", with its edges, and the empty list of document 02, a)
 
 pub cases : Cases.Table
 cases = Cases.table
+
+-- the steps among them, and every call on the walk of the empty list
+pub walk-cases : Walks.Table
+walk-cases = Walks.table

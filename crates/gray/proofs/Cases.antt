@@ -1,9 +1,9 @@
--- The cases of document 01, as facts about the definitions, by computation. Assumes nothing.
+-- The cases of document 01 and those of the empty list, as facts about the definitions, by computation. Assumes nothing.
 use mathlib.Core.Path.{_≡_, refl}
 use Prim.Native.Nat.{ℕ}
 use mathlib.Core.List.{List, [], _∷_}
 use lib.ListN.{length}
-use Rattle.stirling.specs.Count.{c, checkSize, checkPlace}
+use Rattle.stirling.specs.Count.{c, checkSize, checkCycles, checkPlace}
 use Rattle.perm.specs.Lists.{tally, range}
 use Rattle.perm.specs.Permutation.{extend, insert, exchange, rotate}
 use Rattle.perm.specs.Array.{IsArrayOf, partial, product}
@@ -12,8 +12,12 @@ use Rattle.gray.specs.Order.{S, relation, relationA, relationB, relation
 use Rattle.gray.specs.Listing.{rowAt}
 use Rattle.perm.proofs.Checked.{checked-array}
 
--- document 01's table "What is proved of the cases", line by line: a fact's name has n, k and the place
+-- document 01's table "What is proved of the cases", line by line, with n = 0 as document 02, a), has it: a fact's name has n, k and the place
 pub record Table : Type 0 where
+  -- 0,0: count 1, and place 0 is the permutation of nothing, with the array of no entry
+  pub count-0-0 : c 0 0 ≡ 1
+  pub row-0-0-0 : rowAt (S 0 0) 0 ≡ []
+  pub array-0-0-0 : IsArrayOf (rowAt (S 0 0) 0) []
   -- 1,1: place 0 is 1
   pub row-1-1-0 : rowAt (S 1 1) 0 ≡ 1 ∷ []
   -- 4,2: count 11
@@ -43,9 +47,16 @@ pub record Table : Type 0 where
   pub row-5-2-39 : rowAt (S 5 2) 39 ≡ 3 ∷ 5 ∷ 1 ∷ 2 ∷ 4 ∷ []
   pub array-5-2-39 : IsArrayOf (rowAt (S 5 2) 39) (1 ∷ 2 ∷ 1 ∷ 2 ∷ 2 ∷ [])
   pub step-5-2-39 : rowAt (S 5 2) 39 ≡ rotate (rowAt (S 5 2) 38) 2 5 3
-  -- edges: n = 20 serves, 21 is refused 1
+  -- edges: n = 0 serves, with k = 0 alone; with n = 1, k = 0 is refused 2
+  pub cycles-0-0 : checkCycles 0 0 ≡ 0
+  pub cycles-0-1 : checkCycles 0 1 ≡ 2
+  pub cycles-1-0 : checkCycles 1 0 ≡ 2
+  -- n = 20 serves, 21 is refused 1
   pub size-20 : checkSize 20 ≡ 0
   pub size-21 : checkSize 21 ≡ 1
+  -- place 0 of 0,0 serves, 1 is refused 3
+  pub place-0-0-0 : checkPlace 0 0 0 ≡ 0
+  pub place-0-0-1 : checkPlace 0 0 1 ≡ 3
   -- place 49 of 5,2 serves, 50 is refused 3
   pub place-5-2-49 : checkPlace 5 2 49 ≡ 0
   pub place-5-2-50 : checkPlace 5 2 50 ≡ 3
@@ -58,6 +69,9 @@ pub table : Table
 unfolding S relation relationA relationB relationC relationD relationE letter joined rows reading odd rising falling range tally insert extend exchange rotate partial product c
 table =
     record {
+      count-0-0 = refl;
+      row-0-0-0 = refl;
+      array-0-0-0 = array-of _ _ refl refl refl;
       row-1-1-0 = refl;
       count-4-2 = refl;
       row-4-2-0 = refl;
@@ -77,8 +91,13 @@ table =
       row-5-2-39 = refl;
       array-5-2-39 = array-of _ _ refl refl refl;
       step-5-2-39 = refl;
+      cycles-0-0 = refl;
+      cycles-0-1 = refl;
+      cycles-1-0 = refl;
       size-20 = refl;
       size-21 = refl;
+      place-0-0-0 = refl;
+      place-0-0-1 = refl;
       place-5-2-49 = refl;
       place-5-2-50 = refl;
     }

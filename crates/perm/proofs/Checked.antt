@@ -8,6 +8,7 @@ use lib.Dec.{eqb, ltb}
 use lib.ListN.{length}
 use borrow.Author.Tests.{ltb-false, le-ltb, not-false}
 use Rattle.stirling.specs.Refusal.{refuse, within}
+use Rattle.stirling.specs.Count.{checkSize}
 use Rattle.stirling.proofs.Refusals.{refuse-passed, within-true, within-holds}
 use Rattle.perm.specs.Lists.{tally, some, positions}
 use Rattle.perm.specs.Permutation.{IsPermutation, at}
@@ -59,11 +60,11 @@ passes-twice {n} {s} p = unrefused-by (twice s) (positions (length s)) 7 (range-
     once : (v : ℕ) → 1 ≤ v → v < 1 + length s → twice s v ≡ false
     once v a b = le-ltb 1 (tally (eqb v) s) (omega (arith, p .once v a (omega (arith, p .size))))
 
--- a permutation of 1 to 20 values passes the checks 1, 6 and 7
-pub passes : {n : ℕ} {s : List ℕ} → 1 ≤ n → n ≤ 20 → IsPermutation n s → checkPermutation s ≡ 0
-passes {n} {s} h k p =
-    let z = p .size in
-    rw (within-holds 1 20 (length s) (omega arith) (omega arith), passes-values p, passes-twice p)
+-- where check 1 passes n, a permutation of n passes the checks 1, 6 and 7
+pub passes : {n : ℕ} {s : List ℕ} → checkSize n ≡ 0 → IsPermutation n s → checkPermutation s ≡ 0
+passes {n} {s} e p =
+    let size : checkSize (length s) ≡ 0 = rw (p .size) e in
+    rw (size, passes-values p, passes-twice p)
 
 -- what check 6 does not refuse is an array
 pub checked-array : (p : List ℕ) → checkEntries p ≡ 0 → IsArray (length p) p

@@ -6,7 +6,8 @@ use borrow.Author.Tests.{eq-eqb, ne-eqb, eqb-true, not-false}
 use lib.ListN.{length}
 use Rattle.stirling.specs.Refusal.{_then_}
 use Rattle.stirling.specs.Count.{checkSize}
-use Rattle.stirling.proofs.Refusals.{refuse-passed, then-passes, then-passed, within-true}
+use Rattle.stirling.proofs.Refusals.{refuse-passed, then-passes, then-passed}
+use Rattle.stirling.proofs.Counts.{size-passed}
 use Rattle.perm.specs.Permutation.{IsPermutation}
 use Rattle.perm.specs.Checks.{checkLent, checkValues, checkTwice}
 use Rattle.perm.proofs.Checked.{checked}
@@ -31,7 +32,7 @@ lent-passes n size e = rw (eq-eqb size n e)
 pub lengths-passed : (n size : ℕ) → checkSize n then checkLent n size ≡ 0 → (n ≤ 20) × (size ≡ n)
 lengths-passed n size e =
     let both = then-passed (checkSize n) (checkLent n size) e in
-    (within-true 1 20 n (not-false _ (refuse-passed _ 0 (both .0))) .1, eqb-true size n (not-false _ (refuse-passed _ 4 (both .1))))
+    (size-passed n (both .0), eqb-true size n (not-false _ (refuse-passed _ 4 (both .1))))
 
 -- where checks 6 and 7 do not refuse, the slice holds a permutation
 pub contents-passed : (s : List ℕ) → checkValues s then checkTwice s ≡ 0 → IsPermutation (length s) s

@@ -1,6 +1,5 @@
 -- Of the blocks of S(n,k) at most one extends, at an index that n and k give; the others insert. Assumes nothing.
 use mathlib.Core.Path.{_≡_, refl}
-use mathlib.Core.Logic.{⊎-elim}
 use Prim.Native.Nat.{ℕ, zero, suc, _+_, _-_, _≤_, _<_}
 use native.Mathlib.Omega.{arith}
 use mathlib.Core.Bool.{Bool, true, false, cond}
@@ -107,23 +106,23 @@ pub record IndexOf (n k x : ℕ) : Type 0 where
   pub by-d : 1 < k → k + 2 ≡ n → x ≡ n - 2
   pub by-e : 1 < k → k + 3 ≤ n → x ≡ n - k
 
-by-letter : (n k x : ℕ) → 1 ≤ k → k ≤ n → IndexOf n k x → Which n k → Extends x (blocks n k)
+by-letter : (n k x : ℕ) → IndexOf n k x → Which n k → Extends x (blocks n k)
 unfolding blocks blocksOf
-by-letter n k x l u i (is-none e z) = absurd (⊎-elim (λ z. omega arith) (λ z. omega arith) z)
-by-letter n k x l u i (is-a e o h) = rw e (a-extends n x h (i .by-a o))
-by-letter n k x l u i (is-b e a h) = rw e (stop x (i .by-b a) no-more)
-by-letter n k x l u i (is-c e o h) = rw e (c-extends n x (eqb n 3) refl h (i .by-c o))
-by-letter n k x l u i (is-d e o h) =
+by-letter n k x i (is-none e z) = rw e past
+by-letter n k x i (is-a e o h) = rw e (a-extends n x h (i .by-a o))
+by-letter n k x i (is-b e a h) = rw e (stop x (i .by-b a) no-more)
+by-letter n k x i (is-c e o h) = rw e (c-extends n x (eqb n 3) refl h (i .by-c o))
+by-letter n k x i (is-d e o h) =
     let y = i .by-d (omega arith) o in
     rw e (skip x (omega arith) (rising-skip (x - 1) _ 3 (suc (n - 1) - 3) (omega arith) (stop _ (omega arith) (one-more no-more))))
-by-letter n k x l u i (is-e e m h) =
+by-letter n k x i (is-e e m h) =
     let y = i .by-e (omega arith) h in
     rw e
     (skip x (omega arith)
     (falling-skip (x - 1) _ (n - 1) (suc (n - 1) - (k + 1)) (omega arith) (stop _ (omega arith) (falling-inserts _ k (suc k - 2)))))
 
--- the blocks of S(n,k), where k is 1 to n
-pub extends-at : (n k x : ℕ) → 1 ≤ k → k ≤ n → IndexOf n k x → ExtendsAt n k x
-extends-at n k x l u i =
-    let p = by-letter n k x l u i (which n k) in
+-- the blocks of S(n,k)
+pub extends-at : (n k x : ℕ) → IndexOf n k x → ExtendsAt n k x
+extends-at n k x i =
+    let p = by-letter n k x i (which n k) in
     record { extends = λ j r. extended n k r p j; inserts = λ j r. inserted n k r p j }

@@ -6,7 +6,7 @@ use lib.ListN.{length}
 use borrow.Author.Tests.{eq-eqb}
 use Rattle.stirling.specs.Count.{c, checkSize, checkPlace}
 use Rattle.stirling.proofs.Refusals.{then-passed}
-use Rattle.stirling.proofs.Counts.{size-passed, place-passed, place-passes}
+use Rattle.stirling.proofs.Counts.{size-passes, size-passed, place-passed, place-passes}
 use Rattle.perm.specs.Permutation.{IsPermutation}
 use Rattle.perm.specs.Cycle.{cycles}
 use Rattle.perm.specs.Checks.{checkLent, checkValues, checkTwice}
@@ -35,10 +35,10 @@ pub place-back : {n k place : ℕ} {before after : List ℕ} → Unranked n k pl
     → r ≡ record { refusal = 0; k = k; place = place }
 place-back {n} {k} {place} {before} {after} u r ranked =
     let passed = then-passed (checkPlace n k place) (checkLent n (length before)) (sym (u .refusal)) in
-    let (one, most, low, high, below) = place-passed n k place (passed .0) in
+    let (most, below) = place-passed n k place (passed .0) in
     let row = complete n k .sound place (rw length-S below) in
     let permutation : IsPermutation n after = rw (u .written refl) (row .permutation) in
-    let none : r .refusal ≡ 0 = ranked .refusal ∙ passes one most permutation in
+    let none : r .refusal ≡ 0 = ranked .refusal ∙ passes (size-passes n most) permutation in
     let (same-k, same-place) = stands n k place after below (u .written refl) (r .k) (r .place) (ranked .answer none) in
     λ i. record { refusal = none i; k = same-k i; place = same-place i }
 
@@ -50,7 +50,7 @@ pub permutation-back : {s before after : List ℕ} {r : Standing} {q : ℕ} → 
     → (q ≡ 0) × (after ≡ s)
 permutation-back {s} {before} {after} {r} {q} ranked none same-size u =
     let at = ranked .answer none in
-    let size = size-passed (length s) (then-passed (checkSize (length s)) (checkValues s) (then-passed _ (checkTwice s) (sym (ranked .refusal) ∙ none) .0) .0) in
-    let passed : checkPlace (length s) (r .k) (r .place) ≡ 0 = place-passes (length s) (r .k) (r .place) (size .0) (size .1) (at .below) in
+    let most = size-passed (length s) (then-passed (checkSize (length s)) (checkValues s) (then-passed _ (checkTwice s) (sym (ranked .refusal) ∙ none) .0) .0) in
+    let passed : checkPlace (length s) (r .k) (r .place) ≡ 0 = place-passes (length s) (r .k) (r .place) most (at .below) in
     let served : q ≡ 0 = u .refusal ∙ rw (passed, eq-eqb (length before) (length s) same-size) refl in
     (served, u .written served ∙ at .row)

@@ -140,10 +140,10 @@ written-row n k place m o before after w i h =
     let written = rowsFrom n k place m in
     let rest = drop (o + m * n) before in
     let front : length (take o before) ≡ o = length-take-le o before (omega (arith, passed .1)) in
-    let size : length written ≡ m * n = length-rows n k place m (on .4) in
+    let size : length written ≡ m * n = length-rows n k place m (on .3) in
     let room : i * n + n ≤ m * n = next-row i m n h in
     let inner : i * n ≤ length written = omega arith in
     let row : n ≤ length (drop (i * n) written) = omega (arith, length-drop (i * n) written) in
     let at : o + i * n ≡ length (take o before) + i * n = omega arith in
     rw (w .written refl, append-assoc (take o before) written rest, at, drop-append-add (take o before) (written ++ rest) (i * n), drop-append-le (i * n) written rest inner, take-append-le n (drop (i * n) written) rest row)
-    (row-of n k place m (on .4) i h)
+    (row-of n k place m (on .3) i h)

@@ -38,15 +38,15 @@ row-count-refuses n k place m e out = rw (e, either (not (within 1 1000 m)) (ltb
         let on = within-true 1 1000 m (not-false (within 1 1000 m) w) in
         lt-ltb (c n k - place) m (lt-of-not-le (out (on .0) (on .1)))
 
--- checks 1, 2, 3 and 4 pass only where n is 1 to 20, m is 1 to 1,000, and S(n,k) has m rows from the place on
-pub row-count-passed : (n k place m : ℕ) → checkRowCount n k place m ≡ 0 → (1 ≤ n) × (n ≤ 20) × (1 ≤ m) × (m ≤ 1000) × (place + m ≤ c n k)
+-- checks 1, 2, 3 and 4 pass only where n is at most 20, m is 1 to 1,000, and S(n,k) has m rows from the place on
+pub row-count-passed : (n k place m : ℕ) → checkRowCount n k place m ≡ 0 → (n ≤ 20) × (1 ≤ m) × (m ≤ 1000) × (place + m ≤ c n k)
 row-count-passed n k place m e =
     let both = then-passed (checkPlace n k place) (refuse (not (within 1 1000 m) || ltb (c n k - place) m) 4) e in
     let place-on = place-passed n k place (both .0) in
     let tests = neither (not (within 1 1000 m)) (ltb (c n k - place) m) (refuse-passed (not (within 1 1000 m) || ltb (c n k - place) m) 3 (both .1)) in
     let m-on = within-true 1 1000 m (not-false (within 1 1000 m) (tests .0)) in
     let rows : m ≤ c n k - place = ltb-false (c n k - place) m (tests .1) in
-    (place-on .0, place-on .1, m-on .0, m-on .1, omega (arith, place-on .4))
+    (place-on .0, m-on .0, m-on .1, omega (arith, place-on .1))
 
 -- where checks 1 to 4 pass, check 5 passes where o leaves room for m rows
 pub rows-passes : (n k place m o size : ℕ) → checkRowCount n k place m ≡ 0 → o + m * n ≤ size → checkRows n k place m o size ≡ 0

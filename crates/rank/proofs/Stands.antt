@@ -27,7 +27,7 @@ size-refused s r e h = then-stops (checkSize (length s) then checkValues s) (che
 
 -- where check 1 passes there are at most 20 values
 pub few-values : (s : List ℕ) → checkSize (length s) ≡ 0 → length s ≤ 20
-few-values s size = size-passed (length s) size .1
+few-values s size = size-passed (length s) size
 
 -- and the array of s is written to the front of a list z of 20 bytes
 module _ (s : List ℕ) (size : checkSize (length s) ≡ 0) (z : List ℕ) (e : length z ≡ 20) where

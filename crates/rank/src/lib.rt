@@ -7,7 +7,7 @@ ghost use mathlib.Core.Bool.{true, false};
 ghost use mathlib.Core.List.{_++_, reverse};
 ghost use lib.Dec.{eqb};
 ghost use lib.ListN.{length, take, drop};
-ghost use Rattle.stirling.specs.Count.{c, IsTable};
+ghost use Rattle.stirling.specs.Count.{c, IsTable, checkCycles};
 ghost use Rattle.perm.specs.Lists.{tally, positions};
 ghost use Rattle.perm.specs.Permutation.{at};
 ghost use Rattle.gray.specs.Order.{S};
@@ -69,7 +69,7 @@ fn source_of(n: u64, k: u64, block: Block, place: u64) -> Source
 
 // The index of the block of S(n,k) that extends; where none does, as in (a) from n = 2 on, the number of blocks.
 fn extension_index(n: u64, k: u64) -> u64
-    requires { ⌜ (n ≤ 20) × (1 ≤ k) × (k ≤ n) ⌝ }
+    requires { ⌜ checkCycles n k ≡ 0 ⌝ }
     ensures { λ r. ⌜ ExtendsAt n k r ⌝ }
 {
     if k == 1 {

@@ -88,7 +88,7 @@ module _ (n k place m : ℕ) (passed : checkRowCount n k place m ≡ 0) where
   rows-narrow i h =
       let on = row-count-passed n k place m passed in
       let size = length-take-le m (drop place (S n k)) (omega (arith, length-drop place (S n k), length-S n k)) in
-      rw (getD-take m (drop place (S n k)) i [] (omega arith), getD-drop place (S n k) i []) (narrow n k (place + i) (on .1) (omega arith))
+      rw (getD-take m (drop place (S n k)) i [] (omega arith), getD-drop place (S n k) i []) (narrow n k (place + i) (on .0) (omega arith))
 
   -- the line of names and the rows fit
   rows-fit : length (nameLine n ++ rowLines place (take m (drop place (S n k)))) ≤ CAPACITY
@@ -98,7 +98,7 @@ module _ (n k place m : ℕ) (passed : checkRowCount n k place m ≡ 0) where
       omega (
         arith,
         length-append (nameLine n) (rowLines place (take m (drop place (S n k)))),
-        length-nameLine n (on .1),
+        length-nameLine n (on .0),
         length-lines place (take m (drop place (S n k))) rows-narrow,
       )
 

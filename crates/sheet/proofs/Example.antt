@@ -1,4 +1,4 @@
--- Document 01's example, by computation. Assumes nothing.
+-- Document 01's example and the sheet of the empty list, by computation. Assumes nothing.
 use mathlib.Core.Path.{_≡_, refl}
 use mathlib.Core.List.{[], _∷_, _++_}
 use Rattle.perm.specs.Lists.{range, same}
@@ -17,3 +17,8 @@ example : answer (header ++ (52 ∷ 32 ∷ 50 ∷ 32 ∷ 53 ∷ 32 ∷ 51 ∷ 10
     55 ∷ 32 ∷ 50 ∷ 32 ∷ 51 ∷ 32 ∷ 49 ∷ 32 ∷ 52 ∷ 10 ∷ []
 unfolding answerTo names values rowLines asked askedLine field leading valueFrom digits c S relation relationA relationB relationC relationD relationE letter joined rows reading odd rising falling range insert extend same
 example = refl
+
+-- `0 0 0 1` below the header: the lines `place` and `0`, and no more
+empty : answer (header ++ (48 ∷ 32 ∷ 48 ∷ 32 ∷ 48 ∷ 32 ∷ 49 ∷ 10 ∷ [])) ≡ 112 ∷ 108 ∷ 97 ∷ 99 ∷ 101 ∷ 10 ∷ 48 ∷ 10 ∷ []
+unfolding answerTo names values rowLines asked askedLine field leading valueFrom digits c S range same
+empty = refl

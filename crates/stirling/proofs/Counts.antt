@@ -4,13 +4,13 @@ use Prim.Native.Nat.{ℕ, zero, suc, _+_, _*_, _^_, _≤_, _<_}
 use native.Mathlib.Omega.{arith}
 use native.Mathlib.Nat.{le-trans, lt-of-le-of-lt, lt-of-not-le, mul-le-mul, mul-le-mul-left, mul-zero, mul-pos}
 use mathlib.Core.Path.{_≡_, _∙_, refl, sym}
-use mathlib.Core.Bool.{Bool, true, false, not}
+use mathlib.Core.Bool.{Bool, true, false, not, cond}
 use mathlib.Core.List.{List}
-use lib.Dec.{leb, lit<}
-use borrow.Author.Tests.{leb-true, leb-false, le-leb, lt-leb, not-false}
+use lib.Dec.{eqb, leb, ltb, lit<}
+use borrow.Author.Tests.{eqb-true, leb-true, leb-false, ltb-true, ltb-false, eq-eqb, ne-eqb, le-leb, lt-leb, le-ltb, lt-ltb, not-false}
 use Rattle.stirling.specs.Refusal.{refuse, _then_, within}
-use Rattle.stirling.specs.Count.{c, entryOf, IsTable, checkSize, checkCycles, checkPlaceIn, checkPlace, lookupOf}
-use Rattle.stirling.proofs.Refusals.{refuse-passed, then-passed, within-holds, within-fails, within-true}
+use Rattle.stirling.specs.Count.{c, entryOf, IsTable, checkSize, cyclesTaken, checkCycles, checkPlaceIn, checkPlace, lookupOf}
+use Rattle.stirling.proofs.Refusals.{refuse-passed, then-passed, within-holds, within-fails}
 
 -- c(n,k) = (n−1)×c(n−1,k) + c(n−1,k−1)
 pub recurrence : (n k : ℕ) → c (suc n) (suc k) ≡ n * c n (suc k) + c n k
@@ -40,22 +40,22 @@ unfolding c
 nothing = refl
 
 -- for every k from 1 to n some permutation of n has k cycles
-pub positive : (n k : ℕ) → 1 ≤ k → k ≤ n → 0 < c n k
-positive n zero l h = absurd (omega arith)
-positive zero (suc k) l h = absurd (omega arith)
-positive (suc zero) (suc zero) l h = rw recurrence (omega (arith, nothing))
-positive (suc zero) (suc (suc k)) l h = absurd (omega arith)
-positive (suc (suc n)) (suc zero) l h =
-    let p : 0 < suc n * c (suc n) 1 = mul-pos (omega arith) (positive (suc n) 1 l (omega arith)) in
+some : (n k : ℕ) → 1 ≤ k → k ≤ n → 0 < c n k
+some n zero l h = absurd (omega arith)
+some zero (suc k) l h = absurd (omega arith)
+some (suc zero) (suc zero) l h = rw recurrence (omega (arith, nothing))
+some (suc zero) (suc (suc k)) l h = absurd (omega arith)
+some (suc (suc n)) (suc zero) l h =
+    let p : 0 < suc n * c (suc n) 1 = mul-pos (omega arith) (some (suc n) 1 l (omega arith)) in
     rw recurrence (omega arith)
-positive (suc (suc n)) (suc (suc k)) l h =
-    let p : 0 < c (suc n) (suc k) = positive (suc n) (suc k) (omega arith) (omega arith) in
+some (suc (suc n)) (suc (suc k)) l h =
+    let p : 0 < c (suc n) (suc k) = some (suc n) (suc k) (omega arith) (omega arith) in
     rw recurrence (omega arith)
 
--- where there is a place, k is 1 to n
-pub inside : (n k r : ℕ) → 1 ≤ n → r < c n k → (1 ≤ k) × (k ≤ n)
-inside n zero r l h = absurd (omega (arith, no-cycle n l))
-inside n (suc k) r l h = (omega arith, lt-of-not-le (λ o. omega (arith, above n (suc k) (omega arith))))
+-- where there is a place, k is at most n, and 1 at least where n is
+pub inside : (n k r : ℕ) → r < c n k → (1 ≤ n → 1 ≤ k) × (k ≤ n)
+inside n zero r h = (λ l. absurd (omega (arith, no-cycle n l)), omega arith)
+inside n (suc k) r h = (λ l. omega arith, lt-of-not-le (λ o. omega (arith, above n (suc k) (omega arith))))
 
 -- how many permutations of n there are
 unfoldable factorial : ℕ → ℕ
@@ -82,46 +82,69 @@ pub fits : (n k : ℕ) → n ≤ 20 → c n k < 2 ^ 64
 unfolding factorial
 fits n k h = lt-of-le-of-lt (le-trans (among n k) (factorial-grows n 20 h)) (lit< tt)
 
--- check 1 passes where n is 1 to 20
-pub size-passes : (n : ℕ) → 1 ≤ n → n ≤ 20 → checkSize n ≡ 0
-size-passes n l h = rw (within-holds 1 20 n l h)
+-- check 1 passes where n is at most 20
+pub size-passes : (n : ℕ) → n ≤ 20 → checkSize n ≡ 0
+size-passes n h = rw (le-ltb 20 n h)
 
 -- and only there
-pub size-passed : (n : ℕ) → checkSize n ≡ 0 → (1 ≤ n) × (n ≤ 20)
-size-passed n e = within-true 1 20 n (not-false (within 1 20 n) (refuse-passed (not (within 1 20 n)) 0 e))
+pub size-passed : (n : ℕ) → checkSize n ≡ 0 → n ≤ 20
+size-passed n e = ltb-false 20 n (refuse-passed (ltb 20 n) 0 e)
 
 -- elsewhere it refuses
-pub size-refuses : (n : ℕ) → (1 ≤ n → n ≤ 20 → ⊥) → checkSize n ≡ 1
-size-refuses n out = rw (within-fails 1 20 n out)
+pub size-refuses : (n : ℕ) → 20 < n → checkSize n ≡ 1
+size-refuses n h = rw (lt-ltb 20 n h)
 
--- checks 1 and 2 pass where n is at most 20 and k is 1 to n
-pub cycles-passes : (n k : ℕ) → n ≤ 20 → 1 ≤ k → k ≤ n → checkCycles n k ≡ 0
-cycles-passes n k h l u = rw (size-passes n (omega arith) h, within-holds 1 n k l u)
+-- check 2 takes k = 0 with n = 0
+pub taken-none : (n k : ℕ) → n ≡ 0 → k ≡ 0 → cyclesTaken n k ≡ true
+taken-none n k e z = rw (eq-eqb n 0 e, eq-eqb k 0 z)
+
+-- and k from 1 to n
+pub taken-some : (n k : ℕ) → 1 ≤ k → k ≤ n → cyclesTaken n k ≡ true
+taken-some n k l h = rw (ne-eqb n 0 (λ e. omega arith), within-holds 1 n k l h)
+
+-- and no other
+pub taken-fails : (n k : ℕ) → (n ≡ 0 → k ≡ 0 → ⊥) → (1 ≤ k → k ≤ n → ⊥) → cyclesTaken n k ≡ false
+taken-fails n k none out = by-size (eqb n 0) refl
+  where
+    by-size : (b : Bool) → eqb n 0 ≡ b → cond b (eqb k 0) (within 1 n k) ≡ false
+    by-size true e = ne-eqb k 0 (none (eqb-true n 0 e))
+    by-size false e = within-fails 1 n k out
+
+-- so it takes exactly the numbers of cycles that permutations of n have
+taken-counted : (n k : ℕ) → cyclesTaken n k ≡ ltb 0 (c n k)
+taken-counted zero zero = rw nothing
+taken-counted zero (suc k) = rw (taken-fails 0 (suc k) (λ e z. omega arith) (λ l h. omega arith), above 0 (suc k) (omega arith))
+taken-counted (suc n) zero = rw (taken-fails (suc n) 0 (λ e z. omega arith) (λ l h. omega arith), no-cycle (suc n) (omega arith))
+taken-counted (suc n) (suc k) = by-most (leb (suc k) (suc n)) refl
+  where
+    by-most : (b : Bool) → leb (suc k) (suc n) ≡ b → cyclesTaken (suc n) (suc k) ≡ ltb 0 (c (suc n) (suc k))
+    by-most true e =
+        let h = leb-true (suc k) (suc n) e in
+        taken-some (suc n) (suc k) (omega arith) h ∙ sym (lt-ltb 0 (c (suc n) (suc k)) (some (suc n) (suc k) (omega arith) h))
+    by-most false e =
+        let h = leb-false (suc k) (suc n) e in
+        taken-fails (suc n) (suc k) (λ z. omega arith) (λ l u. omega arith) ∙ rw (above (suc n) (suc k) h)
+
+-- checks 1 and 2 pass where n is at most 20 and S(n,k) has a place
+pub cycles-passes : (n k r : ℕ) → n ≤ 20 → r < c n k → checkCycles n k ≡ 0
+cycles-passes n k r h p = rw (size-passes n h, taken-counted n k, lt-ltb 0 (c n k) (omega arith))
 
 -- and only there
-pub cycles-passed : (n k : ℕ) → checkCycles n k ≡ 0 → (1 ≤ n) × (n ≤ 20) × (1 ≤ k) × (k ≤ n)
+pub cycles-passed : (n k : ℕ) → checkCycles n k ≡ 0 → (n ≤ 20) × (0 < c n k)
 cycles-passed n k e =
-    let both = then-passed (checkSize n) (refuse (not (within 1 n k)) 2) e in
-    let size = size-passed n (both .0) in
-    let cycles = within-true 1 n k (not-false (within 1 n k) (refuse-passed (not (within 1 n k)) 1 (both .1))) in
-    (size .0, size .1, cycles .0, cycles .1)
+    let both = then-passed (checkSize n) (refuse (not (cyclesTaken n k)) 2) e in
+    let taken : cyclesTaken n k ≡ true = not-false (cyclesTaken n k) (refuse-passed (not (cyclesTaken n k)) 1 (both .1)) in
+    (size-passed n (both .0), ltb-true 0 (c n k) (sym (taken-counted n k) ∙ taken))
 
--- where check 1 passes, check 2 refuses a k that is not 1 to n
-pub cycles-refuses : (n k : ℕ) → checkSize n ≡ 0 → (1 ≤ k → k ≤ n → ⊥) → checkCycles n k ≡ 2
-cycles-refuses n k e out = rw (e, within-fails 1 n k out)
-
--- checks 1, 2 and 3 pass where n is 1 to 20 and there is such a place
-pub place-passes : (n k r : ℕ) → 1 ≤ n → n ≤ 20 → r < c n k → checkPlace n k r ≡ 0
-place-passes n k r l h p =
-    let on = inside n k r l p in
-    rw (cycles-passes n k h (on .0) (on .1), lt-leb (c n k) r p)
+-- checks 1, 2 and 3 pass where n is at most 20 and S(n,k) has that place
+pub place-passes : (n k r : ℕ) → n ≤ 20 → r < c n k → checkPlace n k r ≡ 0
+place-passes n k r h p = rw (cycles-passes n k r h p, lt-leb (c n k) r p)
 
 -- and only there
-pub place-passed : (n k r : ℕ) → checkPlace n k r ≡ 0 → (1 ≤ n) × (n ≤ 20) × (1 ≤ k) × (k ≤ n) × (r < c n k)
+pub place-passed : (n k r : ℕ) → checkPlace n k r ≡ 0 → (n ≤ 20) × (r < c n k)
 place-passed n k r e =
     let both = then-passed (checkCycles n k) (refuse (leb (c n k) r) 3) e in
-    let cycles = cycles-passed n k (both .0) in
-    (cycles .0, cycles .1, cycles .2, cycles .3, leb-false (c n k) r (refuse-passed (leb (c n k) r) 2 (both .1)))
+    (cycles-passed n k (both .0) .0, leb-false (c n k) r (refuse-passed (leb (c n k) r) 2 (both .1)))
 
 -- where checks 1 and 2 pass, check 3 refuses a place from c(n,k) on
 pub place-refuses : (n k r : ℕ) → checkCycles n k ≡ 0 → c n k ≤ r → checkPlace n k r ≡ 3
@@ -144,5 +167,5 @@ module _ {counts : List ℕ} (w : IsTable counts) (n k : ℕ) where
   place-by-table r = by-cycles (checkCycles n k) refl
     where
       by-cycles : (a : ℕ) → checkCycles n k ≡ a → a then refuse (leb (entryOf counts n k) r) 3 ≡ a then refuse (leb (c n k) r) 3
-      by-cycles zero e = rw (w .holds n k (cycles-passed n k e .1))
+      by-cycles zero e = rw (w .holds n k (cycles-passed n k e .0))
       by-cycles (suc a) e = refl

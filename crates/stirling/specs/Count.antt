@@ -1,9 +1,9 @@
 -- Document 01's *count* c(n,k), and the checks 1, 2 and 3 on numbers, which rest on it. These are definitions; nothing is assumed.
 use mathlib.Core.Path.{_≡_}
 use Prim.Native.Nat.{ℕ, zero, suc, _+_, _*_, _≤_}
-use mathlib.Core.Bool.{not, cond, _&&_}
+use mathlib.Core.Bool.{Bool, not, cond, _&&_}
 use mathlib.Core.List.{List}
-use lib.Dec.{leb}
+use lib.Dec.{eqb, leb, ltb}
 use lib.ListN.{getD}
 use Rattle.stirling.specs.Refusal.{refuse, _then_, unless, within}
 use Rattle.stirling.specs.declared.Counted.{Counted}
@@ -15,13 +15,17 @@ c zero (suc k) = 0
 c (suc n) zero = 0
 c (suc n) (suc k) = n * c n (suc k) + c n k
 
--- check 1: n not 1 to 20
+-- check 1: n above 20
 abbrev pub checkSize : ℕ → ℕ
-checkSize n = refuse (not (within 1 20 n)) 1
+checkSize n = refuse (ltb 20 n) 1
 
--- check 1, then check 2: k not 1 to n
+-- the k that check 2 takes: 0 with n = 0, and 1 to n with n ≥ 1
+abbrev pub cyclesTaken : ℕ → ℕ → Bool
+cyclesTaken n k = cond (eqb n 0) (eqb k 0) (within 1 n k)
+
+-- check 1, then check 2: another k
 abbrev pub checkCycles : ℕ → ℕ → ℕ
-checkCycles n k = checkSize n then refuse (not (within 1 n k)) 2
+checkCycles n k = checkSize n then refuse (not (cyclesTaken n k)) 2
 
 -- checks 1 and 2, then check 3: place ≥ c(n,k)
 abbrev pub checkPlace : ℕ → ℕ → ℕ → ℕ

@@ -498,23 +498,27 @@ pub fn lookup(n: u64, k: u64) -> u64
     entry(&counts, n, k)
 }
 
-// Check 1: n is 1 to 20.
+// Check 1: n is at most 20.
 pub fn check_size(n: u64) -> u8
     ensures { λ r. ⌜ r ≡ checkSize n ⌝ }
 {
-    if n < 1 || n > LARGEST {
+    if LARGEST < n {
         return REFUSED_SIZE;
     }
     0
 }
 
-// Check 1, then check 2: k is 1 to n.
+// Check 1, then check 2: k is 0 with n = 0, and 1 to n with n ≥ 1.
 pub fn check_cycles(n: u64, k: u64) -> u8
     ensures { λ r. ⌜ r ≡ checkCycles n k ⌝ }
 {
     let size_refusal = check_size(n);
     if size_refusal != 0 {
         return size_refusal;
+    }
+    // the one permutation of nothing has no cycle, and every other has one at least
+    if n == 0 && k == 0 {
+        return 0;
     }
     if k < 1 || k > n {
         return REFUSED_CYCLES;

@@ -1,6 +1,35 @@
-/* Each call of the header once, as a C program would make it. */
+/* Each call of the header once, as a C program would make it; then each with n = 0 and slices of no byte and of one. */
 #include "osierdrum.h"
 #include <string.h>
+
+static int empty_list(void) {
+    uint8_t byte = 7, lent[3] = {7, 7, 7};
+    struct osierdrum_Count count = osierdrum_count(0, 0);
+    if (count.refusal != 0 || count.count != 1) return 21;
+    count = osierdrum_count(0, 1);
+    if (count.refusal != 2 || count.count != 0) return 22;
+
+    struct osierdrum_Rank rank = osierdrum_rank(&byte, 0);
+    if (rank.refusal != 0 || rank.k != 0 || rank.place != 0) return 23;
+    rank = osierdrum_rank(&byte, 1);
+    if (rank.refusal != 6 || rank.k != 0 || rank.place != 0) return 24;
+
+    for (size_t len = 0; len <= 1; len++) {
+        uint8_t longer = len == 0 ? 0 : 5;
+        if (osierdrum_unrank(0, 0, 0, lent + 1, len) != longer) return 25;
+        if (osierdrum_unrank(0, 0, 1, lent + 1, len) != 3) return 26;
+        if (osierdrum_unrank(0, 1, 0, lent + 1, len) != 2) return 27;
+        if (osierdrum_to_array(&byte, 0, lent + 1, len) != longer) return 28;
+        if (osierdrum_from_array(&byte, 0, lent + 1, len) != longer) return 29;
+        if (osierdrum_rows(0, 0, 0, 1, 0, lent + 1, len) != 0) return 30;
+        if (osierdrum_rows(0, 0, 0, 1, len, lent + 1, len) != 0) return 31;
+        if (osierdrum_rows(0, 0, 0, 1, len + 1, lent + 1, len) != 5) return 32;
+        if (osierdrum_rows(0, 0, 0, 2, 0, lent + 1, len) != 4) return 33;
+        if (osierdrum_rows(0, 0, 1, 1, 0, lent + 1, len) != 3) return 34;
+        if (osierdrum_rows(0, 1, 0, 1, 0, lent + 1, len) != 2) return 35;
+    }
+    return memcmp(lent, (const uint8_t[]){7, 7, 7}, 3) == 0 ? 0 : 36;
+}
 
 int main(void) {
     struct osierdrum_Count count = osierdrum_count(5, 2);
@@ -24,5 +53,5 @@ int main(void) {
     if (osierdrum_rows(5, 2, 38, 2, 1, page, sizeof page) != 0) return 10;
     if (memcmp(page, (const uint8_t[]){9, 3, 1, 4, 2, 5, 3, 5, 1, 2, 4, 9}, 12) != 0) return 11;
     if (osierdrum_rows(5, 2, 38, 2, 3, page, sizeof page) != 5) return 12;
-    return 0;
+    return empty_list();
 }

@@ -157,10 +157,11 @@ impl Reference {
     }
 
     fn numbers(&self, n: u64, k: u64) -> Result<(usize, usize), u8> {
-        if !(1..=20).contains(&n) {
+        if n > 20 {
             return Err(1);
         }
-        if !(1..=n).contains(&k) {
+        let taken = if n == 0 { 0..=0 } else { 1..=n };
+        if !taken.contains(&k) {
             return Err(2);
         }
         Ok((n as usize, k as usize))
@@ -253,7 +254,7 @@ impl Reference {
     }
 
     pub fn rank(&self, s: &[u8]) -> Result<(u64, u64), u8> {
-        if !(1..=MOST).contains(&s.len()) {
+        if s.len() > MOST {
             return Err(1);
         }
         Self::permutation(s)?;
@@ -278,7 +279,7 @@ impl Reference {
     }
 
     pub fn to_array(&self, s: &[u8], out: &mut [u8]) -> Result<(), u8> {
-        if !(1..=MOST).contains(&s.len()) {
+        if s.len() > MOST {
             return Err(1);
         }
         if out.len() != s.len() {
@@ -291,7 +292,7 @@ impl Reference {
 
     /// The product ⟨p1,1⟩·⟨p2,2⟩·…·⟨pn,n⟩, multiplied out from the left.
     pub fn from_array(&self, a: &[u8], out: &mut [u8]) -> Result<(), u8> {
-        if !(1..=MOST).contains(&a.len()) {
+        if a.len() > MOST {
             return Err(1);
         }
         if out.len() != a.len() {
@@ -322,8 +323,8 @@ impl Reference {
             return Err(5);
         }
         let part = &mut buf[o as usize..][..m as usize * n];
-        for (i, row) in part.chunks_exact_mut(n).enumerate() {
-            self.row(n, k, place + i as u64, row);
+        for i in 0..m as usize {
+            self.row(n, k, place + i as u64, &mut part[i * n..][..n]);
         }
         Ok(())
     }

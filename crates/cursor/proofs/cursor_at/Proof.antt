@@ -5,7 +5,8 @@ use borrow.Author.Needs.{needs}
 use Rattle.gray.specs.Order.{S}
 use Rattle.gray.specs.Listing.{rowAt}
 use Rattle.cursor.specs.Machine.{observe}
-use Rattle.cursor.proofs.Padding.{take-padded, placed, row-placed}
+use Rattle.stirling.proofs.Counts.{size-passes, place-passed}
+use Rattle.cursor.proofs.Padding.{take-padded, row-placed}
 use Rattle.cursor.proofs.cursor_at.Statement.{statement}
 use Rattle.cursor.proofs.cursor_at.Tie as tie
 
@@ -21,8 +22,8 @@ row-at-requires c κs = search needs
 array-of-requires : tie.Need-array-of-requires
 array-of-requires c κs =
     let a = c .before .args in
-    let (l, h) = placed (a .n) (a .k) (a .place) (c .before .pre) .size in
-    (l, h, rw (first-bytes c) (row-placed (a .n) (a .k) (a .place) (c .before .pre)))
+    let small = place-passed (a .n) (a .k) (a .place) (c .before .pre) .0 in
+    (size-passes (a .n) small, rw (first-bytes c) (row-placed (a .n) (a .k) (a .place) (c .before .pre)))
 
 returns : tie.Need-returns
 unfolding observe

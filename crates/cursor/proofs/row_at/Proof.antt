@@ -1,12 +1,13 @@
 -- `cursor::row_at` meets its contract: what `unrank` writes to the front of 20 zeros is the row, filled up. Assumes nothing.
 use mathlib.Core.Path.{sym}
 use borrow.Author.Needs.{needs}
-use Rattle.cursor.proofs.Padding.{length-front, placed, row-padded}
+use Rattle.stirling.proofs.Counts.{place-passed}
+use Rattle.cursor.proofs.Padding.{length-front, row-padded}
 use Rattle.cursor.proofs.row_at.Statement.{statement}
 use Rattle.cursor.proofs.row_at.Tie as tie
 
 array-borrow-prefix-row : tie.Need-array-borrow-prefix-row
-array-borrow-prefix-row c = placed (c .args .n) (c .args .k) (c .args .place) (c .pre) .size .1
+array-borrow-prefix-row c = place-passed (c .args .n) (c .args .k) (c .args .place) (c .pre) .0
 
 slice-aggregate-unrank : tie.Need-slice-aggregate-unrank
 slice-aggregate-unrank c = sym (length-front (array-borrow-prefix-row (c .before)))

@@ -5,8 +5,8 @@ use lib.ListN.{length, take}
 use lib.Seq.{length-take-le}
 use Rattle.cursor.specs.Machine.{Machine, rowOf, moved}
 use Rattle.cursor.specs.Walk.{machineOf}
-use Rattle.cursor.proofs.Calls.{OnPlace, on-moved}
-use Rattle.cursor.proofs.Sound.{sound-on, sound-shows, on-passes}
+use Rattle.cursor.proofs.Calls.{OnPlace, on-moved, on-passes}
+use Rattle.cursor.proofs.Sound.{sound-on, sound-shows}
 use Rattle.cursor.proofs.Steps.{row-permutation}
 use Rattle.cursor.proofs.Padding.{length-shown, take-shown}
 use Rattle.cursor.proofs.step_to.Statement.{statement}

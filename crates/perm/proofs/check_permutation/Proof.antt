@@ -14,7 +14,7 @@ returns : tie.Need-returns
 returns c = then-stops _ _ _ (then-stops _ _ _ (c .before .check-size .ensures) (c .if1 .taken)) (c .if1 .taken)
 
 check-contents-requires : tie.Need-check-contents-requires
-check-contents-requires c κs = size-passed _ (sym (c .before .check-size .ensures) ∙ c .if1 .left) .1
+check-contents-requires c κs = size-passed _ (sym (c .before .check-size .ensures) ∙ c .if1 .left)
 
 returns-2 : tie.Need-returns-2
 returns-2 c = next-two _ _ _ (sym (c .before .before .check-size .ensures) ∙ c .before .if1 .left) (c .check-contents .ensures)

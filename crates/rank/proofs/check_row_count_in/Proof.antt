@@ -39,7 +39,7 @@ sub-if4 c =
     let a = s .args in
     let passed : checkPlace (a .n) (a .k) (a .place) ≡ 0 = omega (arith, is-place b) in
     let on = place-passed (a .n) (a .k) (a .place) passed in
-    omega (arith, s .pre .holds (a .n) (a .k) (on .1))
+    omega (arith, s .pre .holds (a .n) (a .k) (on .0))
 
 returns-3 : tie.Need-returns-3
 returns-3 c =
@@ -48,7 +48,7 @@ returns-3 c =
     let a = s .args in
     let passed : checkPlace (a .n) (a .k) (a .place) ≡ 0 = omega (arith, is-place b) in
     let on = place-passed (a .n) (a .k) (a .place) passed in
-    sym (row-count-refuses (a .n) (a .k) (a .place) (a .m) passed (λ l h p. omega (arith, s .pre .holds (a .n) (a .k) (on .1))))
+    sym (row-count-refuses (a .n) (a .k) (a .place) (a .m) passed (λ l h p. omega (arith, s .pre .holds (a .n) (a .k) (on .0))))
 
 returns-4 : tie.Need-returns-4
 returns-4 c =
@@ -57,7 +57,7 @@ returns-4 c =
     let a = s .args in
     let passed : checkPlace (a .n) (a .k) (a .place) ≡ 0 = omega (arith, is-place b) in
     let on = place-passed (a .n) (a .k) (a .place) passed in
-    sym (row-count-passes (a .n) (a .k) (a .place) (a .m) passed (omega arith) (omega (arith, ltb-false)) (omega (arith, s .pre .holds (a .n) (a .k) (on .1))))
+    sym (row-count-passes (a .n) (a .k) (a .place) (a .m) passed (omega arith) (omega (arith, ltb-false)) (omega (arith, s .pre .holds (a .n) (a .k) (on .0))))
 
 pub check-row-count-in-spec : {M : Type 1} → statement M
 check-row-count-in-spec =

@@ -32,7 +32,7 @@ block-at-requires c κs = search needs
 source-of-requires : tie.Need-source-of-requires Inv-loop μ-loop
 source-of-requires c κs =
     let s = c .before .before .before in
-    inside (s .args .n) (s .args .k) (s .pre .1 .place) (omega (arith, s .pre .1 .position)) (s .pre .1 .below) .0
+    inside (s .args .n) (s .args .k) (s .pre .1 .place) (s .pre .1 .below) .0 (omega (arith, s .pre .1 .position))
 
 -- where the source of block j's first row is at hand: there is a block j, and the source is its own
 module _ (c : tie.After-source-of Inv-loop μ-loop) where

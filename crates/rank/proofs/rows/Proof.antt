@@ -32,7 +32,7 @@ mul-check-room c =
     let a = c .before .before .before .before .before .args in
     let passed : checkRowCount (a .n) (a .k) (a .place) (a .m) ≡ 0 = omega arith in
     let on = row-count-passed (a .n) (a .k) (a .place) (a .m) passed in
-    omega (arith, few-bytes (a .m) (a .n) (on .3) (on .1))
+    omega (arith, few-bytes (a .m) (a .n) (on .2) (on .0))
 
 check-room-requires : tie.Need-check-room-requires
 check-room-requires c κs = search needs

@@ -7,7 +7,7 @@ use Prim.Native.Nat.{_-_, _≤_, _<_}
 use native.Mathlib.Omega.{arith}
 use lib.ListN.{length}
 use Rattle.stirling.specs.Count.{c as count}
-use Rattle.stirling.proofs.Counts.{inside}
+use Rattle.stirling.proofs.Counts.{inside, cycles-passes}
 use Rattle.gray.specs.declared.Block.{Block}
 use Rattle.gray.specs.Order.{S}
 use Rattle.gray.specs.Blocks.{blocks}
@@ -24,9 +24,9 @@ Inv-loop counts n k place inserted extended extension rest₀ j₀ rest j = Hold
 abbrev μ-loop : tie.MeasureT-loop
 μ-loop counts n k place inserted extended extension rest₀ j₀ rest j = length (blocks n k) - j
 
--- k is 1 to n
-on : (s : tie.Start Inv-loop μ-loop) → (1 ≤ s .args .k) × (s .args .k ≤ s .args .n)
-on s = inside (s .args .n) (s .args .k) (s .args .place) (s .pre .1 .0) (s .pre .1 .2)
+-- there is a cycle
+some : (s : tie.Start Inv-loop μ-loop) → 1 ≤ s .args .k
+some s = inside (s .args .n) (s .args .k) (s .args .place) (s .pre .1 .2) .0 (s .pre .1 .0)
 
 sub-entry : tie.Need-sub-entry Inv-loop μ-loop
 sub-entry c = search needs
@@ -38,7 +38,7 @@ sub-entry-2 : tie.Need-sub-entry-2 Inv-loop μ-loop
 sub-entry-2 c = search needs
 
 sub-entry-3 : tie.Need-sub-entry-3 Inv-loop μ-loop
-sub-entry-3 c = on (c .before .before) .0
+sub-entry-3 c = some (c .before .before)
 
 entry-requires-2 : tie.Need-entry-requires-2 Inv-loop μ-loop
 entry-requires-2 c κs = search needs
@@ -46,7 +46,7 @@ entry-requires-2 c κs = search needs
 extension-index-requires : tie.Need-extension-index-requires Inv-loop μ-loop
 extension-index-requires c κs =
     let s = c .before .before .before in
-    (s .pre .1 .1, on s .0, on s .1)
+    cycles-passes (s .args .n) (s .args .k) (s .args .place) (s .pre .1 .1) (s .pre .1 .2)
 
 loop-holds : tie.Need-loop-holds Inv-loop μ-loop
 loop-holds c =
@@ -88,7 +88,7 @@ block-at-requires : tie.Need-block-at-requires Inv-loop μ-loop
 block-at-requires c κs = search needs
 
 source-of-requires : tie.Need-source-of-requires Inv-loop μ-loop
-source-of-requires c κs = on (at-start (c .before .before .before)) .0
+source-of-requires c κs = some (at-start (c .before .before .before))
 
 returns : tie.Need-returns Inv-loop μ-loop
 returns c =

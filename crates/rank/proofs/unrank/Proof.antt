@@ -62,7 +62,7 @@ unrank-forward-requires c κs =
     let b = c .before .before .before .before in
     let e = b .before .before .before .before in
     let p = place-passed (e .args .n) (e .args .k) (e .args .place) (sym (is-place b) ∙ c .before .before .before .if1 .left) in
-    (b .before .before .table .ensures, record { small = p .1; below = p .4; lent = c .before .before .if2 .left })
+    (b .before .before .table .ensures, record { small = p .0; below = p .1; lent = c .before .before .if2 .left })
 
 same-length : tie.Need-same-length
 same-length c = search needs

@@ -31,7 +31,7 @@ few c =
     let s = c .before .before .before .before in
     let a = s .args in
     let on = row-count-passed (a .n) (a .k) (a .place) (a .m) (s .pre .1 .0) in
-    (few-bytes (c .before .loop .row) (a .n) (omega arith) (on .1), on .1)
+    (few-bytes (c .before .loop .row) (a .n) (omega arith) (on .0), on .0)
 
 mul-at : tie.Need-mul-at Inv-loop μ-loop
 mul-at c = omega (arith, few c)
@@ -44,7 +44,7 @@ add-unrank-forward c =
     let s = c .before .before .before .before in
     let a = s .args in
     let on = row-count-passed (a .n) (a .k) (a .place) (a .m) (s .pre .1 .0) in
-    omega (arith, fits (a .n) (a .k) (on .1))
+    omega (arith, fits (a .n) (a .k) (on .0))
 
 sub-unrank-forward : tie.Need-sub-unrank-forward Inv-loop μ-loop
 sub-unrank-forward c = search needs
@@ -64,7 +64,7 @@ unrank-forward-requires c κs =
     let head = c .before .before .loop in
     let on = row-count-passed (a .n) (a .k) (a .place) (a .m) (s .pre .1 .0) in
     let room = next-row (head .row) (a .m) (a .n) (omega arith) in
-    (s .pre .0, record { small = on .1; below = omega arith; lent = row-lent (a .n) (head .row) _ (head .part) refl (omega arith) })
+    (s .pre .0, record { small = on .0; below = omega arith; lent = row-lent (a .n) (head .row) _ (head .part) refl (omega arith) })
 
 add-row : tie.Need-add-row Inv-loop μ-loop
 add-row c = search needs

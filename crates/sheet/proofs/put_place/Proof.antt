@@ -26,12 +26,12 @@ lent n h = sym (length-take-le n array h)
 module _ (n k place r : ℕ) (row : List ℕ) (passed : checkPlace n k place ≡ 0) (u : Unranked n k place (take n array) r row) where
   begins : length row ≡ length (take n array) → take n (row ++ drop n array) ≡ rowAt (S n k) place
   begins e =
-      let size = lent n (place-passed n k place passed .1) in
+      let size = lent n (place-passed n k place passed .0) in
       take-at row (drop n array) n (e ∙ sym size) ∙ u .written (u .refusal ∙ rw (passed, eq-eqb (length (take n array)) n (sym size)))
 
 -- n is at most 20
 most : (c : tie.Start) → c .args .n ≤ 20
-most c = place-passed (c .args .n) (c .args .k) (c .args .place) (c .pre .0) .1
+most c = place-passed (c .args .n) (c .args .k) (c .args .place) (c .pre .0) .0
 
 -- what comes back of the array
 abbrev row : tie.After-unrank → List ℕ

@@ -30,10 +30,10 @@ start s = s .before .before .before
 abbrev next-place : tie.In-loop Inv-loop μ-loop → ℕ
 next-place s = start s .args .place + s .before .loop .done
 
-inside : (s : tie.In-loop Inv-loop μ-loop) → (1 ≤ start s .args .n) × (start s .args .n ≤ 20) × (next-place s < c (start s .args .n) (start s .args .k))
+inside : (s : tie.In-loop Inv-loop μ-loop) → (start s .args .n ≤ 20) × (next-place s < c (start s .args .n) (start s .args .k))
 inside s =
     let on = row-count-passed (start s .args .n) (start s .args .k) (start s .args .place) (start s .args .m) (start s .pre .0) in
-    (on .0, on .1, omega arith)
+    (on .0, omega arith)
 
 loop-holds : tie.Need-loop-holds Inv-loop μ-loop
 loop-holds s =
@@ -43,18 +43,18 @@ loop-holds s =
     (omega arith, rw (first, all) (left-all (s .before .pre .1)))
 
 add-put-place : tie.Need-add-put-place Inv-loop μ-loop
-add-put-place s = omega (arith, inside s .2, fits (start s .args .n) (start s .args .k) (inside s .1))
+add-put-place s = omega (arith, inside s .1, fits (start s .args .n) (start s .args .k) (inside s .0))
 
 put-place-requires : tie.Need-put-place-requires Inv-loop μ-loop
 put-place-requires s κs =
     let turn = s .before in
     let a = start turn .args in
     let on = inside turn in (
-      place-passes (a .n) (a .k) (next-place turn) (on .0) (on .1) (on .2),
+      place-passes (a .n) (a .k) (next-place turn) (on .0) (on .1),
       left-room
           (rowLine _ _)
           _
-          (lines-next (a .n) (a .k) (a .place) (a .m) (turn .before .loop .done) (turn .loop-test .taken) (on .2))
+          (lines-next (a .n) (a .k) (a .place) (a .m) (turn .before .loop .done) (turn .loop-test .taken) (on .1))
           (turn .before .loop .inv .1),
     )
 
@@ -72,7 +72,7 @@ loop-again s =
       left-next
           (rowLine _ _)
           _
-          (lines-next (a .n) (a .k) (a .place) (a .m) (turn .before .loop .done) (turn .loop-test .taken) (inside turn .2))
+          (lines-next (a .n) (a .k) (a .place) (a .m) (turn .before .loop .done) (turn .loop-test .taken) (inside turn .1))
           (turn .before .loop .inv .1)
           (s .before .before .put-place .ensures),
     )

@@ -27,7 +27,7 @@ returns-2 c =
     let n = c .before .before .before .args .n in
     let k = c .before .before .before .args .k in
     let passed : checkCycles n k ≡ 0 = omega arith in
-    rw (passed, c .lookup .ensures, looked-up n k (cycles-passed n k passed .1))
+    rw (passed, c .lookup .ensures, looked-up n k (cycles-passed n k passed .0))
 
 pub count-spec : {M : Type 1} → statement M
 count-spec = tie.close (tie.spec check-cycles-requires returns lookup-requires returns-2)

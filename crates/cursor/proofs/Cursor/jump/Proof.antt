@@ -7,8 +7,8 @@ use borrow.Author.Tests.{le-leb, lt-leb}
 use Rattle.stirling.specs.Count.{c as count-of}
 use Rattle.cursor.specs.Machine.{jump, refusalOf, moved}
 use Rattle.cursor.specs.Walk.{machineOf, sound}
-use Rattle.cursor.proofs.Calls.{on-moved}
-use Rattle.cursor.proofs.Sound.{sound-on, on-passes}
+use Rattle.cursor.proofs.Calls.{on-moved, on-passes}
+use Rattle.cursor.proofs.Sound.{sound-on}
 use Rattle.cursor.proofs.Outcomes.{fails, passes, called-unsound, called-refused, called-moves, sound-count}
 use Rattle.cursor.proofs.Cursor.jump.Statement.{statement}
 use Rattle.cursor.proofs.Cursor.jump.Tie as tie

@@ -5,8 +5,7 @@ use borrow.Author.Needs.{needs}
 use Rattle.stirling.specs.Count.{checkCycles}
 use Rattle.stirling.proofs.Refusals.{unless-refuses}
 use Rattle.cursor.specs.Walk.{start, opened}
-use Rattle.cursor.proofs.Calls.{start-on}
-use Rattle.cursor.proofs.Sound.{on-passes}
+use Rattle.cursor.proofs.Calls.{start-on, on-passes}
 use Rattle.cursor.proofs.Cursor.open.Statement.{statement}
 use Rattle.cursor.proofs.Cursor.open.Tie as tie
 

@@ -1,0 +1,57 @@
+-- `calls::number_after` is safe and ends. Assumes nothing.
+use mathlib.Core.Logic.{⊎-elim}
+use Prim.Native.Nat.{_≤_, _-_}
+use native.Mathlib.Omega.{arith}
+use lib.ListN.{length}
+use borrow.Author.Needs.{needs}
+use Rattle.calls.proofs.number_after.Statement.{statement}
+use Rattle.calls.proofs.number_after.Tie as tie
+
+abbrev Inv-loop : tie.InvT-loop
+Inv-loop line space value₀ met₀ i₀ value met i = (met ≤ i) × (i ≤ length line)
+
+abbrev μ-loop : tie.MeasureT-loop
+μ-loop line space value₀ met₀ i₀ value met i = length line - i
+
+loop-holds : tie.Need-loop-holds Inv-loop μ-loop
+loop-holds c = search needs
+
+shared-slice-read-if1 : tie.Need-shared-slice-read-if1 Inv-loop μ-loop
+shared-slice-read-if1 c = search needs
+
+add-met : tie.Need-add-met Inv-loop μ-loop
+add-met c = search needs
+
+shared-slice-read-with-digit : tie.Need-shared-slice-read-with-digit Inv-loop μ-loop
+shared-slice-read-with-digit c = search needs
+
+with-digit-requires : tie.Need-with-digit-requires Inv-loop μ-loop
+with-digit-requires c κs = search needs
+
+add-i : tie.Need-add-i Inv-loop μ-loop
+add-i c = search needs
+
+loop-less : tie.Need-loop-less Inv-loop μ-loop
+loop-less c = search needs
+
+loop-again : tie.Need-loop-again Inv-loop μ-loop
+loop-again c = ⊎-elim (λ w. omega arith) (λ w. ⊎-elim (λ v. omega arith) (λ v. omega arith) w) (c .if1 .came)
+
+returns : tie.Need-returns Inv-loop μ-loop
+returns c = search needs
+
+pub number-after-spec : {M : Type 1} → statement M
+number-after-spec =
+    tie.close
+    (tie.spec
+    Inv-loop
+    μ-loop
+    loop-holds
+    shared-slice-read-if1
+    add-met
+    shared-slice-read-with-digit
+    with-digit-requires
+    add-i
+    loop-less
+    loop-again
+    returns)

@@ -1,0 +1,75 @@
+//! The empty list: every call with n = 0, or with a slice of no bytes, as document 02, a), has it. The values stand here as written, not from the
+//! reference; the other tests compare n = 0 with the reference among the rest.
+
+use osierdrum::{count, from_array, rank, rows, to_array, unrank, Rank, Refusal};
+
+/// A call on a lent slice of `size` bytes, with guards: its result. No byte changes, whether it is served or refused.
+fn lent(size: usize, call: impl Fn(&mut [u8]) -> Result<(), Refusal>) -> Result<(), Refusal> {
+    let mut buffer = [7u8; 12];
+    let result = call(&mut buffer[5..5 + size]);
+    assert_eq!(buffer, [7; 12]);
+    result
+}
+
+#[test]
+fn counts() {
+    assert_eq!(count(0, 0), Ok(1));
+    for k in [1, 2, 20, 21, 1 << 63, u64::MAX] {
+        assert_eq!(count(0, k), Err(Refusal::Cycles));
+    }
+    assert_eq!(count(1, 0), Err(Refusal::Cycles));
+    assert_eq!(count(21, 0), Err(Refusal::Size));
+}
+
+#[test]
+fn permutation_at_a_place() {
+    assert_eq!(lent(0, |out| unrank(0, 0, 0, out)), Ok(()));
+    assert_eq!(lent(1, |out| unrank(0, 0, 0, out)), Err(Refusal::Lent));
+    for size in [0, 1] {
+        for place in [1, 2, u64::MAX] {
+            assert_eq!(lent(size, |out| unrank(0, 0, place, out)), Err(Refusal::Place));
+            assert_eq!(lent(size, |out| unrank(0, 1, place, out)), Err(Refusal::Cycles));
+        }
+        assert_eq!(lent(size, |out| unrank(0, 1, 0, out)), Err(Refusal::Cycles));
+        assert_eq!(lent(size, |out| unrank(1, 0, 0, out)), Err(Refusal::Cycles));
+    }
+}
+
+#[test]
+fn place_of_a_permutation() {
+    assert_eq!(rank(&[]), Ok(Rank { k: 0, place: 0 }));
+    assert_eq!(rank(&[1]), Ok(Rank { k: 1, place: 0 }));
+    assert_eq!(rank(&[0]), Err(Refusal::Value));
+    assert_eq!(rank(&[0; 21]), Err(Refusal::Size));
+}
+
+#[test]
+fn arrays() {
+    for call in [to_array, from_array] {
+        assert_eq!(lent(0, |out| call(&[], out)), Ok(()));
+        assert_eq!(lent(1, |out| call(&[], out)), Err(Refusal::Lent));
+        assert_eq!(lent(0, |out| call(&[1], out)), Err(Refusal::Lent));
+        assert_eq!(lent(1, |out| call(&[0], out)), Err(Refusal::Value));
+        let mut out = [7];
+        assert_eq!(call(&[1], &mut out), Ok(()));
+        assert_eq!(out, [1]);
+    }
+}
+
+#[test]
+fn rows_of_no_bytes() {
+    for size in [0, 1] {
+        for o in 0..=size as u64 {
+            assert_eq!(lent(size, |buf| rows(0, 0, 0, 1, o, buf)), Ok(()));
+        }
+        for o in [size as u64 + 1, u64::MAX] {
+            assert_eq!(lent(size, |buf| rows(0, 0, 0, 1, o, buf)), Err(Refusal::Lent));
+            assert_eq!(lent(size, |buf| rows(0, 0, 0, 2, o, buf)), Err(Refusal::Rows));
+        }
+        for m in [0, 2, 1000, 1001, u64::MAX] {
+            assert_eq!(lent(size, |buf| rows(0, 0, 0, m, 0, buf)), Err(Refusal::Rows));
+            assert_eq!(lent(size, |buf| rows(0, 0, 1, m, 0, buf)), Err(Refusal::Place));
+            assert_eq!(lent(size, |buf| rows(0, 1, 0, m, 0, buf)), Err(Refusal::Cycles));
+        }
+    }
+}
