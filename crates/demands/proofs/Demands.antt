@@ -1,13 +1,13 @@
 -- The request's demands 2 and 3 as theorems, to be read from top to bottom beside it. Each is a law of a crate below, stated in full here so that nothing has
 -- to be looked up but the definitions in specs/. What demand 1 asks is met by the proofs of the functions themselves (docs/DEMANDS.md says how).
 -- Assumes nothing.
-use mathlib.Core.Path.{_≡_, refl, _∙_, sym}
+use mathlib.Core.Path.{_≡_, _∙_, sym}
 use Prim.Native.Nat.{ℕ, _≤_, _<_, _^_}
 use mathlib.Core.List.{List}
 use lib.Dec.{eqb}
 use lib.ListN.{length}
-use Rattle.stirling.specs.Count.{c, countOf, checkCycles}
-use Rattle.stirling.proofs.Counts.{cycles-passed, fits}
+use Rattle.stirling.specs.Count.{c, countOf, checkCycles, checkPlace}
+use Rattle.stirling.proofs.Counts.{cycles-passes, cycles-passed, fits}
 use Rattle.perm.specs.Lists.{tally, positions}
 use Rattle.perm.specs.Permutation.{IsPermutation, at, distance}
 use Rattle.perm.specs.Cycle.{cycles}
@@ -15,7 +15,7 @@ use Rattle.perm.specs.Array.{IsArray, IsArrayOf, product}
 use Rattle.perm.proofs.Arrays.{product-permutation, has-array, one-array, cycles-product}
 use Rattle.perm.proofs.Apart as Apart
 use Rattle.gray.specs.Order.{Row, S}
-use Rattle.gray.specs.Listing.{rowAt, HasCycles, Complete, Neighbours, Closed}
+use Rattle.gray.specs.Listing.{HasCycles, Complete, Neighbours, Closed}
 use Rattle.gray.proofs.Once as Once
 use Rattle.gray.proofs.Neighbours as Neighbours
 use Rattle.gray.proofs.Cases as Cases
@@ -25,7 +25,7 @@ use Rattle.rank.proofs.RoundTrip.{place-back, permutation-back}
 use Rattle.cursor.specs.Machine.{Machine, Call, Steps, rowOf, refusalOf, turn, answered, IsStep}
 use Rattle.cursor.specs.Walk.{walkRun, plainRun}
 use Rattle.cursor.proofs.Calls as Calls
-use Rattle.cursor.proofs.Calls.{OnPlace}
+use Rattle.cursor.proofs.Calls.{placed}
 use Rattle.cursor.proofs.Steps as Steps
 use Rattle.cursor.proofs.Cases as Walks
 
@@ -34,6 +34,10 @@ use Rattle.cursor.proofs.Cases as Walks
 -- the counts: for all n and k that the checks 1 and 2 pass the call Count serves c(n,k), which fits 64 bits and is the length of S(n,k)
 pub counts : (n k : ℕ) → checkCycles n k ≡ 0 → (countOf n k ≡ record { refusal = 0; count = c n k }) × (c n k < 2 ^ 64) × (length (S n k) ≡ c n k)
 counts n k e = (rw e, fits n k (cycles-passed n k e .0), Once.length-S n k)
+
+-- and no list is lost by the checks: for n up to 20 they pass every k for which some permutation of n has k cycles, n = 0 with k = 0 among them
+pub served : (n k : ℕ) → n ≤ 20 → 0 < c n k → checkCycles n k ≡ 0
+served n k = cycles-passes n k 0
 
 -- from place to permutation and back: a permutation written for a place of S(n,k) is ranked k and that place
 pub place-to-place : {n k place : ℕ} {before after : List ℕ} → Unranked n k place before 0 after
@@ -70,10 +74,11 @@ fixed-entries = cycles-product
 pub calls : (n k : ℕ) → checkCycles n k ≡ 0 → (cs : List Call) → walkRun n k cs ≡ plainRun n k cs
 calls = Calls.calls
 
--- at each forward or back that is not refused the three positions are different, the first is the smallest, new = old·⟨i,j,l⟩, and no other three are so
-pub steps : (m : Machine) (call : Call) → OnPlace m → Steps call → refusalOf m call ≡ 0
+-- from every place that the checks 1, 2 and 3 pass: at each forward or back that is not refused the three positions are different, the first is the
+-- smallest, new = old·⟨i,j,l⟩, and no other three are so
+pub steps : (m : Machine) (call : Call) → checkPlace (m .n) (m .k) (m .place) ≡ 0 → Steps call → refusalOf m call ≡ 0
     → IsStep (m .n) (rowOf m) (rowOf (turn m call)) (answered m call .i) (answered m call .j) (answered m call .l)
-steps = Steps.steps
+steps m call e = Steps.steps m call (placed (m .n) (m .k) (m .place) e)
 
 -- ---- Demand 3, second half: the lists. For all n and k, so for all that the checks pass, n = 0 with k = 0 among them
 

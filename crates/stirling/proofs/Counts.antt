@@ -40,16 +40,16 @@ unfolding c
 nothing = refl
 
 -- for every k from 1 to n some permutation of n has k cycles
-some : (n k : ℕ) → 1 ≤ k → k ≤ n → 0 < c n k
-some n zero l h = absurd (omega arith)
-some zero (suc k) l h = absurd (omega arith)
-some (suc zero) (suc zero) l h = rw recurrence (omega (arith, nothing))
-some (suc zero) (suc (suc k)) l h = absurd (omega arith)
-some (suc (suc n)) (suc zero) l h =
-    let p : 0 < suc n * c (suc n) 1 = mul-pos (omega arith) (some (suc n) 1 l (omega arith)) in
+positive : (n k : ℕ) → 1 ≤ k → k ≤ n → 0 < c n k
+positive n zero l h = absurd (omega arith)
+positive zero (suc k) l h = absurd (omega arith)
+positive (suc zero) (suc zero) l h = rw recurrence (omega (arith, nothing))
+positive (suc zero) (suc (suc k)) l h = absurd (omega arith)
+positive (suc (suc n)) (suc zero) l h =
+    let p : 0 < suc n * c (suc n) 1 = mul-pos (omega arith) (positive (suc n) 1 l (omega arith)) in
     rw recurrence (omega arith)
-some (suc (suc n)) (suc (suc k)) l h =
-    let p : 0 < c (suc n) (suc k) = some (suc n) (suc k) (omega arith) (omega arith) in
+positive (suc (suc n)) (suc (suc k)) l h =
+    let p : 0 < c (suc n) (suc k) = positive (suc n) (suc k) (omega arith) (omega arith) in
     rw recurrence (omega arith)
 
 -- where there is a place, k is at most n, and 1 at least where n is
@@ -120,7 +120,7 @@ taken-counted (suc n) (suc k) = by-most (leb (suc k) (suc n)) refl
     by-most : (b : Bool) → leb (suc k) (suc n) ≡ b → cyclesTaken (suc n) (suc k) ≡ ltb 0 (c (suc n) (suc k))
     by-most true e =
         let h = leb-true (suc k) (suc n) e in
-        taken-some (suc n) (suc k) (omega arith) h ∙ sym (lt-ltb 0 (c (suc n) (suc k)) (some (suc n) (suc k) (omega arith) h))
+        taken-some (suc n) (suc k) (omega arith) h ∙ sym (lt-ltb 0 (c (suc n) (suc k)) (positive (suc n) (suc k) (omega arith) h))
     by-most false e =
         let h = leb-false (suc k) (suc n) e in
         taken-fails (suc n) (suc k) (λ z. omega arith) (λ l u. omega arith) ∙ rw (above (suc n) (suc k) h)
