@@ -126,13 +126,15 @@ pub fn unrank(n: u64, k: u64, place: u64, out: &mut [u8]) -> Result<(), Refusal>
     Refusal::checked(unsafe { ffi::osierdrum_unrank(n, k, place, out.as_mut_ptr(), out.len()) })
 }
 
-/// The number of cycles of a permutation and its place; n is the slice's length.
+/// The number of cycles of a permutation and its place; n is the slice's length. An empty slice is the permutation of
+/// nothing: no cycle, place 0.
 ///
 /// Refusals, in this order: [`Refusal::Size`], [`Refusal::Value`], [`Refusal::Twice`].
 ///
 /// ```
 /// use osierdrum::{rank, Rank, Refusal};
 /// assert_eq!(rank(&[4, 2, 1, 3]), Ok(Rank { k: 2, place: 0 }));
+/// assert_eq!(rank(&[]), Ok(Rank { k: 0, place: 0 }));
 /// assert_eq!(rank(&[1, 1]), Err(Refusal::Twice));
 /// ```
 pub fn rank(s: &[u8]) -> Result<Rank, Refusal> {

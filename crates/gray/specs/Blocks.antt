@@ -1,4 +1,4 @@
--- S(n,k) as a list of blocks for every n and k: the rows that (a) and (b) write out are blocks too. These are definitions; nothing is assumed.
+-- S(n,k) as a list of blocks, for every n ≥ 1 and every k: the rows that (a) and (b) write out are blocks too. These are definitions; nothing is assumed.
 use Prim.Native.Nat.{ℕ, zero, suc, _+_}
 use mathlib.Core.Bool.{cond}
 use mathlib.Core.List.{List, [], _∷_}
@@ -9,7 +9,7 @@ use Rattle.gray.specs.declared.Letter.{Letter}
 use Rattle.gray.specs.declared.Letter.the-variants.{Nothing as none, A as by-a, B as by-b, C as by-c, D as by-d, E as by-e}
 use Rattle.gray.specs.Order.{blocksA4, blocksA, blocksC3, blocksC, blocksD, blocksE, letter}
 
--- (a): (1) is E of no permutation, (2,1) is I(1,(1)), and (3,1,2), (2,3,1) are I(1,(2,1)), I(2,(2,1))
+-- (a): (1) is E of the permutation of nothing, (2,1) is I(1,(1)), and (3,1,2), (2,3,1) are I(1,(2,1)), I(2,(2,1))
 unfoldable pub blocksOfA : ℕ → List Block
 blocksOfA zero = []
 blocksOfA (suc zero) = E 0 ∷ []

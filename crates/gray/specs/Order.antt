@@ -99,7 +99,7 @@ relationD n L M = joined n L M (blocksD n)
 unfoldable pub relationE : ℕ → ℕ → List Row → List Row → List Row
 relationE n k L M = joined n L M (blocksE n k)
 
--- which relation gives S(n,k): none where no permutation of n has k cycles; (a) k = 1; (b) k = n; (c) k = n−1; (d) k = n−2; otherwise (e)
+-- which relation gives S(n,k), for n ≥ 1: none where no permutation of n has k cycles; (a) k = 1; (b) k = n; (c) k = n−1; (d) k = n−2; otherwise (e)
 unfoldable pub letter : ℕ → ℕ → Letter
 letter n k =
     cond (eqb k 0 || ltb n k) none

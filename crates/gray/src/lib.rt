@@ -14,7 +14,7 @@ pub enum Block {
     Extend { reading: u64 },
 }
 
-// Which of document 01's relations (a) to (e) gives S(n,k), or that no permutation of n has k cycles.
+// Which of document 01's relations (a) to (e) gives S(n,k); `Nothing` where no permutation of n has k cycles, and for n = 0, whose list no relation gives.
 pub enum Letter {
     Nothing,
     A,

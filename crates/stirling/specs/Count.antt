@@ -15,15 +15,15 @@ c zero (suc k) = 0
 c (suc n) zero = 0
 c (suc n) (suc k) = n * c n (suc k) + c n k
 
--- check 1: n above 20
+-- check 1, as document 02, a), has it: n above 20
 abbrev pub checkSize : ℕ → ℕ
 checkSize n = refuse (ltb 20 n) 1
 
--- the k that check 2 takes: 0 with n = 0, and 1 to n with n ≥ 1
+-- the k that check 2 takes, as document 02, a), has it: 0 with n = 0, and 1 to n with n ≥ 1
 abbrev pub cyclesTaken : ℕ → ℕ → Bool
 cyclesTaken n k = cond (eqb n 0) (eqb k 0) (within 1 n k)
 
--- check 1, then check 2: another k
+-- check 1, then check 2: k not one of these
 abbrev pub checkCycles : ℕ → ℕ → ℕ
 checkCycles n k = checkSize n then refuse (not (cyclesTaken n k)) 2
 

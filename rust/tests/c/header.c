@@ -21,6 +21,9 @@ static int empty_list(void) {
         if (osierdrum_unrank(0, 1, 0, lent + 1, len) != 2) return 27;
         if (osierdrum_to_array(&byte, 0, lent + 1, len) != longer) return 28;
         if (osierdrum_from_array(&byte, 0, lent + 1, len) != longer) return 29;
+        uint8_t shorter = len == 0 ? 5 : 6;
+        if (osierdrum_to_array(&byte, 1, lent + 1, len) != shorter) return 37;
+        if (osierdrum_from_array(&byte, 1, lent + 1, len) != shorter) return 38;
         if (osierdrum_rows(0, 0, 0, 1, 0, lent + 1, len) != 0) return 30;
         if (osierdrum_rows(0, 0, 0, 1, len, lent + 1, len) != 0) return 31;
         if (osierdrum_rows(0, 0, 0, 1, len + 1, lent + 1, len) != 5) return 32;
