@@ -1,7 +1,7 @@
 -- Rows filled up with zeros to 20 bytes: what the calls of crates rank and perm write to the front of 20 zeros. Assumes nothing.
 use mathlib.Core.Path.{_≡_, _∙_}
 use mathlib.Core.List.{List, _++_}
-use Prim.Native.Nat.{ℕ, zero, suc, _-_, _≤_}
+use Prim.Native.Nat.{ℕ, _-_, _≤_}
 use native.Mathlib.Omega.{arith}
 use lib.ListN.{length, take, drop, replicate, length-append}
 use lib.Seq.{take-at, length-take-le}
@@ -16,16 +16,11 @@ use Rattle.perm.proofs.ArrayOf.{is-array-of}
 use Rattle.gray.specs.Order.{S}
 use Rattle.gray.specs.Listing.{rowAt}
 use Rattle.rank.specs.Place.{Unranked}
+use Rattle.rank.proofs.Stands.{drop-replicate}
 use Rattle.cursor.specs.Machine.{Machine, padded, rowOf, observe, moved}
 use Rattle.cursor.specs.Walk.{start}
 use Rattle.cursor.proofs.Calls.{OnPlace, placed}
 use Rattle.cursor.proofs.Steps.{row-permutation}
-
--- zeros without the first of them
-drop-zeros : (m n : ℕ) → n ≤ m → drop {A = ℕ} n (replicate m 0) ≡ replicate (m - n) 0
-drop-zeros m zero h = let e : m - 0 ≡ m = omega arith in rw e
-drop-zeros zero (suc n) h = absurd (omega arith)
-drop-zeros (suc m) (suc n) h = let e : suc m - suc n ≡ m - n = omega arith in rw e (drop-zeros m n (omega arith))
 
 -- the part of 20 zeros that is lent
 pub length-front : {n : ℕ} → n ≤ 20 → length (take {A = ℕ} n (replicate 20 0)) ≡ n
@@ -33,7 +28,7 @@ length-front {n} h = length-take-le n (replicate 20 0) h
 
 -- n bytes written there are filled up with zeros
 front-padded : {n : ℕ} (s : List ℕ) → length s ≡ n → n ≤ 20 → s ++ drop n (replicate 20 0) ≡ padded s
-front-padded {n} s e h = rw (drop-zeros 20 n h, e)
+front-padded {n} s e h = rw (drop-replicate {A = ℕ} 0 20 n h, e)
 
 -- and are its first n
 pub take-padded : {n : ℕ} (s : List ℕ) → length s ≡ n → take n (padded s) ≡ s

@@ -5,10 +5,11 @@ use Prim.Native.Nat.{ℕ, zero, suc, _+_, _-_, _≤_, _<_}
 use native.Mathlib.Nat.{eq-or-lt-of-le}
 use native.Mathlib.Numerals.{add-one}
 use native.Mathlib.Omega.{arith}
-use mathlib.Core.List.{List, [], _∷_, _++_}
+use mathlib.Core.Bool.{false}
+use mathlib.Core.List.{List, [], _∷_, _++_, append-nil}
 use borrow.Author.Tests.{eq-eqb, ne-eqb}
 use lib.ListN.{length, getD, drop, length-append, length-drop, List·getD-append}
-use lib.Seq.{drop-cons, drop-at, drop-drop, getD-at, getD-drop}
+use lib.Seq.{take-suc, drop-cons, drop-at, drop-drop, getD-at, getD-drop}
 use Rattle.stirling.specs.Count.{c}
 use Rattle.perm.specs.Permutation.{IsPermutation}
 use Rattle.perm.specs.Array.{IsArray, product}
@@ -18,14 +19,15 @@ use Rattle.gray.specs.declared.Block.the-variants.{Insert as I, Extend as E}
 use Rattle.gray.specs.Order.{Row, S, joined}
 use Rattle.gray.specs.Blocks.{blocks}
 use Rattle.gray.specs.Listing.{rowAt}
+use Rattle.gray.proofs.Joined.{joined-append}
 use Rattle.gray.proofs.Indexed.{block}
 use Rattle.gray.proofs.InPlace.{InPlace, in-place}
 use Rattle.gray.proofs.Once.{length-S}
-use Rattle.rank.specs.Search.{grown, sourceOf, ComesFrom}
+use Rattle.rank.specs.Search.{grown, sourceOf, numberIn, numberOf, before, ComesFrom}
 use Rattle.rank.specs.Ranking.{cyclesLeft, Occurs, readingOf, IsPart}
 use Rattle.rank.proofs.Grown.{grown-insert, grown-extend}
 use Rattle.rank.proofs.Reversed.{row-cycles}
-use Rattle.rank.proofs.Search.{Holds, blockRows, length-block, block-row, ahead, ahead-all, source, block-left, comes-from}
+use Rattle.rank.proofs.Search.{Holds, blockRows, length-block, block-row, ahead, ahead-all, source, same-place, block-left, comes-from}
 
 -- one entry more in a transposition array puts value m + 1 at the position that it names
 pub product-grown : {m : ℕ} {p : List ℕ} (i : ℕ) → 1 ≤ i → i ≤ suc m → IsArray m p → product (p ++ (i ∷ [])) ≡ grown (suc m) i (product p)
@@ -101,20 +103,31 @@ elsewhere {n} {k} {i} j r other o w =
     (sym (same-position-of n k (block (blocks n k) j) r)
     ∙ one-position n (s .position) i (w .position) (o .position) (shorter .permutation) (o .permutation) (sym (w .row) ∙ o .row))
 
--- blocks 0 to j−1 have `start` rows: what is left of S(n,k) after these are the rows from block j on, and no row passed has n at position i
+-- the rows up to block j + 1 are those up to block j and those of block j
+before-suc : (n k j : ℕ) → j < length (blocks n k) → before n k false (suc j) ≡ before n k false j + c (n - 1) (source n k j 0 .cycles)
+unfolding before joined
+before-suc n k j h =
+    let b = block (blocks n k) j in
+    rw (take-suc (blocks n k) j (E 0) h, joined-append, length-append, append-nil, length-block n k b 0)
+
+-- blocks 0 to j−1 are passed, with `start` rows, and none of them puts n at position i: what is left of S(n,k) after these are the rows from block j on, and
+-- no row passed has n at position i
 pub record Passed (n k i start j : ℕ) : Type 0 where
+  pub number : numberOf n k i ≡ j + numberIn n k i (drop j (blocks n k))
+  pub first : start ≡ before n k false j
   pub rest : drop start (S n k) ≡ ahead n k j
-  pub before : (o : Occurs n k i) → start ≤ o .place
+  pub behind : (o : Occurs n k i) → start ≤ o .place
 
 -- the search begins with no block passed
 pub none-passed : (n k i : ℕ) → 1 ≤ n → Passed n k i 0 0
-none-passed n k i h = record { rest = ahead-all n k h; before = λ o. omega arith }
+unfolding before joined
+none-passed n k i h = record { number = omega arith; first = refl; rest = ahead-all n k h; behind = λ o. omega arith }
 
 module _ {n k i start j : ℕ} (p : Passed n k i start j) where
   -- a row sought is ahead
   sought : (o : Occurs n k i) → Holds (ahead n k j) (rowAt (S n k) (o .place)) (o .place - start)
   sought o =
-      let h = p .before o in
+      let h = p .behind o in
       let e : start + (o .place - start) ≡ o .place = omega arith in
       rw (← p .rest)
       (record {
@@ -132,13 +145,24 @@ module _ {n k i start j : ℕ} (p : Passed n k i start j) where
     ahead-block = p .rest ∙ rw (drop-cons (blocks n k) j (E 0) l)
 
     -- block j puts n elsewhere: a row sought is behind it
-    behind : (source n k j 0 .position ≡ i → ⊥) → (o : Occurs n k i) → start + c (n - 1) (source n k j 0 .cycles) ≤ o .place
-    behind other o =
+    still-behind : (source n k j 0 .position ≡ i → ⊥) → (o : Occurs n k i) → start + c (n - 1) (source n k j 0 .cycles) ≤ o .place
+    still-behind other o =
         let b = block (blocks n k) j in
         let r = o .place - start in
         let same-size : c (n - 1) (source n k j r .cycles) ≡ c (n - 1) (source n k j 0 .cycles) = sym (length-block n k b r) ∙ length-block n k b 0 in
         let not-here : ¬ (r < c (n - 1) (source n k j r .cycles)) = λ u. elsewhere j r other o (comes-from n k (o .place) j r h (sought o) u) in
-        omega (arith, p .before o)
+        omega (arith, p .behind o)
+
+    -- the block sought is block j, or one of those after it
+    number-here : source n k j 0 .position ≡ i → numberOf n k i ≡ j
+    unfolding numberIn
+    number-here here = p .number ∙ rw (drop-cons (blocks n k) j (E 0) l, eq-eqb _ _ here) (omega arith)
+
+    number-past : (source n k j 0 .position ≡ i → ⊥) → numberOf n k i ≡ (j + 1) + numberIn n k i (drop (j + 1) (blocks n k))
+    unfolding numberIn
+    number-past other =
+        rw add-one
+        (p .number ∙ rw (drop-cons (blocks n k) j (E 0) l, ne-eqb _ _ other) (omega arith))
 
     -- and it is passed
     pub passes : (source n k j 0 .position ≡ i → ⊥) → Passed n k i (start + c (n - 1) (source n k j 0 .cycles)) (j + 1)
@@ -146,19 +170,25 @@ module _ {n k i start j : ℕ} (p : Passed n k i start j) where
         let b = block (blocks n k) j in
         let size = c (n - 1) (sourceOf n k b 0 .cycles) in
         record {
+          number = number-past other;
+          first = rw (add-one) (ap (λ (x : ℕ). x + size) (p .first) ∙ sym (before-suc n k j l));
           rest =
               rw (add-one, ← drop-drop size start (S n k), ahead-block)
               (drop-at (blockRows n k b) (ahead n k (suc j)) size (length-block n k b 0));
-          before = behind other;
+          behind = still-behind other;
         }
 
     -- block j puts n at position i: its rows are the part sought
     pub is-part : source n k j 0 .position ≡ i
-        → IsPart n k i (record { start = start; cycles = source n k j 0 .cycles; backward = source n k j 0 .backward })
+        → IsPart n k i (record { block = j; start = start; cycles = source n k j 0 .cycles; backward = source n k j 0 .backward })
     is-part here =
         let b = block (blocks n k) j in
         let size = length-block n k b 0 in
         record {
+          number = sym (number-here here);
+          inside = l;
+          source = λ t. record { position = here t; cycles = source n k j 0 .cycles; backward = source n k j 0 .backward; place = same-place n k b 0 t };
+          first = p .first;
           left = left-of n k i b (in-place n k j) here;
           below = λ r u.
               omega (arith, ap length ahead-block, length-append (blockRows n k b) (ahead n k (suc j)), size, length-drop start (S n k), length-S n k);

@@ -1,24 +1,27 @@
 -- A permutation that passes the checks, its transposition array in a list of 20 bytes, and where the permutation stands. Assumes nothing.
-use mathlib.Core.Path.{_≡_, sym, ap, _∙_}
-use Prim.Native.Nat.{ℕ, _≤_}
+use mathlib.Core.Path.{_≡_, sym, ap, subst, _∙_}
+use Prim.Native.Nat.{ℕ, zero, suc, _-_, _≤_}
 use native.Mathlib.Omega.{arith}
 use mathlib.Core.Bool.{false}
 use mathlib.Core.List.{List, _++_}
 use lib.Dec.{eqb}
 use borrow.Author.Tests.{eq-eqb}
-use lib.ListN.{length, take, drop, length-append}
+use lib.ListN.{length, take, drop, replicate, length-append}
 use lib.Seq.{length-take-le, take-at}
 use Rattle.stirling.specs.Refusal.{_then_}
 use Rattle.stirling.specs.Count.{checkSize}
-use Rattle.stirling.proofs.Refusals.{then-stops}
+use Rattle.stirling.proofs.Refusals.{then-stops, then-passed}
 use Rattle.stirling.proofs.Counts.{size-passed}
 use Rattle.perm.specs.Lists.{tally, positions}
-use Rattle.perm.specs.Permutation.{at}
+use Rattle.perm.specs.Permutation.{IsPermutation, at}
 use Rattle.perm.specs.Cycle.{cycles}
-use Rattle.perm.specs.Array.{IsArray, IsArrayOf}
+use Rattle.perm.specs.Array.{IsArrayOf, arrayOf}
 use Rattle.perm.specs.Checks.{checkValues, checkTwice, checkPermutation, ToArray}
-use Rattle.perm.proofs.Arrays.{cycles-product}
-use Rattle.rank.specs.Place.{StandsAt}
+use Rattle.perm.proofs.Arrays.{product-permutation, cycles-product}
+use Rattle.perm.proofs.ArrayOf.{array-of, is-array-of}
+use Rattle.perm.proofs.Checked.{checked}
+use Rattle.rank.specs.declared.Entries.{Entries}
+use Rattle.rank.specs.Place.{StandsAt, HasEntries}
 use Rattle.rank.specs.Ranking.{Rankable, PlaceIn}
 
 -- a refusal of check 1 stands before checks 6 and 7
@@ -47,17 +50,58 @@ module _ (s : List ℕ) (size : checkSize (length s) ≡ 0) (z : List ℕ) (e : 
       pub array-inside : length s ≤ length (after ++ drop (length s) z)
       array-inside = omega (arith, length-append after (drop (length s) z), w .written passed .array .size)
 
--- the array of a permutation of at most 20 values, with its fixed entries counted
-module _ {s a : List ℕ} {k : ℕ} (w : IsArrayOf s a) (h : length s ≤ 20) (e : k ≡ tally (λ i. eqb (at a i) i) (positions (length a))) where
-  pub array-rankable : Rankable a k
-  array-rankable =
-      let array : IsArray (length a) a = rw (w .array .size) (w .array) in
-      record { small = omega (arith, w .array .size); array = array; count = cycles-product array ∙ sym e }
+-- elements alike without the first of them
+pub drop-replicate {ℓ} : {A : Type ℓ} (a : A) (m n : ℕ) → n ≤ m → drop n (replicate m a) ≡ replicate (m - n) a
+drop-replicate a m zero h = let e : m - 0 ≡ m = omega arith in rw e
+drop-replicate a zero (suc n) h = absurd (omega arith)
+drop-replicate a (suc m) (suc n) h = let e : suc m - suc n ≡ m - n = omega arith in rw e (drop-replicate a m n (omega arith))
+
+-- what has an array is a permutation
+of-array : {s a : List ℕ} → IsArrayOf s a → IsPermutation (length s) s
+of-array {s} w = subst (IsPermutation (length s)) (w .equal) (product-permutation (w .array))
+
+-- what is read of a permutation of at most 20 values: its array in front of zeros, whose fixed entries are its cycles
+module _ {s a : List ℕ} (w : IsArrayOf s a) where
+  pub array-padded : length s ≤ 20 → a ++ drop (length s) (replicate 20 0) ≡ arrayOf (length s) s ++ replicate (20 - length s) 0
+  array-padded h = rw (drop-replicate {A = ℕ} 0 20 (length s) h, is-array-of w (of-array w))
+
+  pub fixed-cycles : {k : ℕ} → k ≡ tally (λ i. eqb (at a i) i) (positions (length a)) → k ≡ cycles s
+  fixed-cycles e = e ∙ sym (cycles-product (rw (w .array .size) (w .array))) ∙ ap cycles (w .equal)
+
+-- where checks 1, 6 and 7 pass there is a permutation of at most 20 values
+pub permutation-passed : (s : List ℕ) → checkPermutation s ≡ 0 → (length s ≤ 20) × IsPermutation (length s) s
+permutation-passed s e =
+    let (before, twice) = then-passed (checkSize (length s) then checkValues s) (checkTwice s) e in
+    let (size, values) = then-passed (checkSize (length s)) (checkValues s) before in
+    (size-passed (length s) size, checked s values twice)
+
+-- what was read and not refused: the array of the permutation stands in front
+module _ {s : List ℕ} {r : Entries} (w : HasEntries s r) (passed : r .refusal ≡ 0) where
+  is-permutation : (length s ≤ 20) × IsPermutation (length s) s
+  is-permutation = permutation-passed s (sym (w .refusal) ∙ passed)
+
+  pub entries-array : IsArrayOf s (take (length s) (r .array))
+  entries-array =
+      let a = array-of (is-permutation .1) in
+      rw (w .array passed, take-at (arrayOf (length s) s) (replicate (20 - length s) 0) (length s) (a .array .size)) a
+
+  pub entries-inside : length s ≤ length (r .array)
+  entries-inside =
+      rw (w .array passed)
+      (omega (arith, length-append (arrayOf (length s) s) (replicate (20 - length s) 0), array-of (is-permutation .1) .array .size))
+
+  pub entries-rankable : Rankable (take (length s) (r .array)) (r .k)
+  entries-rankable =
+      let a = entries-array in
+      let size = a .array .size in
+      record { small = omega (arith, size, is-permutation .0); array = rw size (a .array); count = ap cycles (a .equal) ∙ sym (w .count passed) }
 
   -- its place is that of the permutation
-  pub stands : {r : ℕ} → PlaceIn false a k r → StandsAt s k r
-  stands p = record {
-    count = sym (array-rankable .count) ∙ ap cycles (w .equal);
-    below = rw (w .array .size) at (p .below);
-    row = rw (w .array .size) at (p .row) ∙ w .equal;
-  }
+  pub stands : {place : ℕ} → PlaceIn false (take (length s) (r .array)) (r .k) place → StandsAt s (r .k) place
+  stands p =
+      let a = entries-array in
+      record {
+        count = w .count passed;
+        below = rw (a .array .size) at (p .below);
+        row = rw (a .array .size) at (p .row) ∙ a .equal;
+      }

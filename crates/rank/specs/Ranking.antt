@@ -2,17 +2,19 @@
 -- shorter list that the block is made from. Only private contracts cite them. These are definitions; nothing is assumed.
 use mathlib.Core.Path.{_≡_}
 use Prim.Native.Nat.{ℕ, _+_, _-_, _≤_, _<_}
-use mathlib.Core.Bool.{Bool, cond}
+use mathlib.Core.Bool.{Bool, false, cond}
 use mathlib.Core.List.{List, reverse}
 use lib.Dec.{eqb}
-use lib.ListN.{length}
+use lib.ListN.{length, getD}
 use Rattle.stirling.specs.Count.{c}
 use Rattle.perm.specs.Permutation.{IsPermutation}
 use Rattle.perm.specs.Cycle.{cycles}
 use Rattle.perm.specs.Array.{IsArray, product}
+use Rattle.gray.specs.declared.Block.the-variants.{Extend as E}
 use Rattle.gray.specs.Order.{Row, S}
+use Rattle.gray.specs.Blocks.{blocks}
 use Rattle.gray.specs.Listing.{rowAt}
-use Rattle.rank.specs.Search.{grown}
+use Rattle.rank.specs.Search.{grown, sourceOf, numberOf, before}
 use Rattle.rank.specs.declared.Part.{Part}
 
 -- the cycles without value n, where n stands at position i of a permutation with k: at position n it is a cycle of its own
@@ -33,8 +35,12 @@ pub record Occurs (n k i : ℕ) : Type 0 where
 abbrev pub readingOf : Bool → ℕ → ℕ → List Row
 readingOf backward n k = cond backward (reverse (S n k)) (S n k)
 
--- the part of S(n,k) that has value n at position i: from `start` on, it is made from a list for n−1 row by row
+-- the part of S(n,k) that has value n at position i: the block with its number, made from a list for n−1 row by row; `start` rows stand before it
 pub record IsPart (n k i : ℕ) (p : Part) : Type 0 where
+  pub number : p .block ≡ numberOf n k i
+  pub inside : p .block < length (blocks n k)
+  pub source : sourceOf n k (getD (blocks n k) (p .block) (E 0)) 0 ≡ record { position = i; cycles = p .cycles; backward = p .backward; place = 0 }
+  pub first : p .start ≡ before n k false (p .block)
   pub left : p .cycles ≡ cyclesLeft n k i
   pub below : (r : ℕ) → r < c (n - 1) (p .cycles) → p .start + r < c n k
   pub row : (r : ℕ) → r < c (n - 1) (p .cycles) → rowAt (S n k) (p .start + r) ≡ grown n i (rowAt (readingOf (p .backward) (n - 1) (p .cycles)) r)

@@ -1,14 +1,16 @@
--- How a row of S(n,k) comes from a row of a shorter list: what the search for a place finds. Only private contracts cite them. These are definitions; nothing is assumed.
+-- How a row of S(n,k) comes from a row of a shorter list, and where a block stands in it: what the searches for a place and for a permutation find. Private contracts
+-- cite them, and the rows of document 02, b). These are definitions; nothing is assumed.
 use mathlib.Core.Path.{_≡_}
-use Prim.Native.Nat.{ℕ, _-_, _≤_, _<_}
-use mathlib.Core.Bool.{cond}
-use mathlib.Core.List.{reverse}
-use lib.ListN.{length, getD}
+use Prim.Native.Nat.{ℕ, suc, _-_, _≤_, _<_}
+use mathlib.Core.Bool.{Bool, cond}
+use mathlib.Core.List.{List, [], _∷_, reverse}
+use lib.Dec.{eqb}
+use lib.ListN.{length, getD, take, drop}
 use Rattle.stirling.specs.Count.{c}
 use Rattle.perm.specs.Permutation.{exchange, extend}
 use Rattle.gray.specs.declared.Block.{Block}
 use Rattle.gray.specs.declared.Block.the-variants.{Insert as I, Extend as E}
-use Rattle.gray.specs.Order.{Row, S, odd}
+use Rattle.gray.specs.Order.{Row, S, odd, joined}
 use Rattle.gray.specs.Blocks.{blocks}
 use Rattle.gray.specs.Listing.{rowAt}
 use Rattle.rank.specs.declared.Source.{Source}
@@ -21,6 +23,19 @@ grown n i γ = exchange i n (extend n γ)
 abbrev pub sourceOf : ℕ → ℕ → Block → ℕ → Source
 sourceOf n k (I i e) place = record { position = i; cycles = k; backward = odd e; place = place }
 sourceOf n k (E e) place = record { position = n; cycles = k - 1; backward = odd e; place = place }
+
+-- of some blocks, the number of the first that puts value n at position i, counted from 0; where none does, how many they are
+unfoldable pub numberIn : ℕ → ℕ → ℕ → List Block → ℕ
+numberIn n k i [] = 0
+numberIn n k i (b ∷ bs) = cond (eqb (sourceOf n k b 0 .position) i) 0 (suc (numberIn n k i bs))
+
+-- document 02's number of a block, "from 0 in written order": of the block of S(n,k) that puts value n at position i
+abbrev pub numberOf : ℕ → ℕ → ℕ → ℕ
+numberOf n k i = numberIn n k i (blocks n k)
+
+-- how many rows of S(n,k) stand before its block j, in written order the j-th from 0, where the list is read forward, or backward: then the blocks after it come first
+unfoldable pub before : ℕ → ℕ → Bool → ℕ → ℕ
+before n k backward j = length (joined n (S (n - 1) k) (S (n - 1) (k - 1)) (cond backward (drop (suc j) (blocks n k)) (take j (blocks n k))))
 
 -- of the blocks of S(n,k), the one at index x extends, and the others insert
 pub record ExtendsAt (n k x : ℕ) : Type 0 where

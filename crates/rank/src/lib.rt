@@ -6,13 +6,13 @@ ghost use Prim.Native.Nat.{_+_, _-_, _*_, _≤_, _<_};
 ghost use mathlib.Core.Bool.{true, false};
 ghost use mathlib.Core.List.{_++_, reverse};
 ghost use lib.Dec.{eqb};
-ghost use lib.ListN.{length, take, drop};
+ghost use lib.ListN.{length, replicate, take, drop};
 ghost use Rattle.stirling.specs.Count.{c, IsTable, checkCycles};
 ghost use Rattle.perm.specs.Lists.{tally, positions};
 ghost use Rattle.perm.specs.Permutation.{at};
 ghost use Rattle.gray.specs.Order.{S};
 ghost use Rattle.gray.specs.Listing.{rowAt};
-ghost use Rattle.rank.specs.Place.{Unranked, Ranked, checkRowCount, rowsFrom, RowsWritten};
+ghost use Rattle.rank.specs.Place.{Unranked, Ranked, HasEntries, checkRowCount, rowsFrom, RowsWritten};
 ghost use Rattle.rank.specs.Search.{grown, sourceOf, ExtendsAt, sourceRow, ComesFrom, Readable};
 ghost use Rattle.rank.specs.Ranking.{Occurs, IsPart, Rankable, PlaceIn};
 
@@ -39,11 +39,20 @@ struct Source {
     place: u64,
 }
 
-// The part of S(n,k) that one block makes: `start` rows stand before it, and it is made from S(n-1,cycles), read forward or backward.
-struct Part {
-    start: u64,
-    cycles: u64,
-    backward: bool,
+// The part of S(n,k) that one block makes: the block's number from 0 in written order, how many rows stand before it, and the list S(n-1,cycles) that it
+// is made from, read forward or backward.
+pub struct Part {
+    pub block: u64,
+    pub start: u64,
+    pub cycles: u64,
+    pub backward: bool,
+}
+
+// The transposition array of a permutation, followed by zeros, and its number of cycles. Zeros on a refusal.
+pub struct Entries {
+    pub refusal: u8,
+    pub k: u64,
+    pub array: [u8; 20],
 }
 
 // What a block of S(n,k) makes its row at a place from.
@@ -176,7 +185,8 @@ pub fn unrank(n: u64, k: u64, place: u64, out: &mut [u8]) -> u8
 }
 
 // The part of S(n,k) that has value n at position i: the blocks are passed, one after the other, and their rows counted, up to the one that puts n there.
-fn part_with(counts: &[u64], n: u64, k: u64, i: u64) -> Part
+// It is `pub` for the crates above: no call of document 01, so what it asks is asked by `requires`.
+pub fn part_with(counts: &[u64], n: u64, k: u64, i: u64) -> Part
     requires { ⌜ IsTable (now counts) ⌝ }
     requires { ⌜ Occurs n k i ⌝ }
     ensures { λ r. ⌜ IsPart n k i r ⌝ }
@@ -187,6 +197,7 @@ fn part_with(counts: &[u64], n: u64, k: u64, i: u64) -> Part
         let source = source_of(n, k, gray::block_at(n, k, j), 0);
         if source.position == i {
             return Part {
+                block: j,
                 start,
                 cycles: source.cycles,
                 backward: source.backward,
@@ -255,6 +266,17 @@ fn fixed_entries(a: &[u8]) -> u64
     fixed
 }
 
+// A refusal, with no array.
+fn unread(refusal: u8) -> Entries
+    ensures { λ r. ⌜ r ≡ record { refusal = refusal; k = 0; array = replicate 20 0 } ⌝ }
+{
+    Entries {
+        refusal,
+        k: 0,
+        array: [0u8; 20],
+    }
+}
+
 // A refusal, with zeros.
 fn nowhere(refusal: u8) -> Standing
     ensures { λ r. ⌜ (r .refusal ≡ refusal) × (r .k ≡ 0) × (r .place ≡ 0) ⌝ }
@@ -266,28 +288,44 @@ fn nowhere(refusal: u8) -> Standing
     }
 }
 
-// Where a permutation stands: its number of cycles k, and its place in S(n,k), where n is the slice's length. Refusals in document 01's order:
-// check 1, and then checks 6 and 7 as its array is made.
-pub fn rank(s: &[u8]) -> Standing
-    ensures { λ r. ⌜ Ranked (now (s .entry)) r ⌝ }
+// The transposition array of a permutation of n values, where n is the slice's length, and its number of cycles. Refusals in document 01's order: check 1,
+// and then checks 6 and 7 as the array is made.
+pub fn entries_of(s: &[u8]) -> Entries
+    ensures { λ r. ⌜ HasEntries (now (s .entry)) r ⌝ }
 {
     let n = s.len();
     let size_refusal = stirling::check_size(n as u64);
     if size_refusal != 0 {
-        return nowhere(size_refusal);
+        return unread(size_refusal);
     }
     let mut array = [0u8; 20];
     let array_refusal = perm::to_array(s, &mut array[..n]);
     if array_refusal != 0 {
-        return nowhere(array_refusal);
+        return unread(array_refusal);
     }
-    let entries = &array[..n];
-    let k = fixed_entries(entries);
+    let k = fixed_entries(&array[..n]);
+    Entries {
+        refusal: array_refusal,
+        k,
+        array,
+    }
+}
+
+// Where a permutation stands: its number of cycles k, and its place in S(n,k), where n is the slice's length. Refusals 1, 6, 7, as its array is made.
+pub fn rank(s: &[u8]) -> Standing
+    ensures { λ r. ⌜ Ranked (now (s .entry)) r ⌝ }
+{
+    let entries = entries_of(s);
+    if entries.refusal != 0 {
+        return nowhere(entries.refusal);
+    }
+    let n = s.len();
+    let array = entries.array;
     let counts = stirling::table();
-    let place = rank_forward(&counts, entries, k);
+    let place = rank_forward(&counts, &array[..n], entries.k);
     Standing {
         refusal: 0,
-        k,
+        k: entries.k,
         place,
     }
 }

@@ -83,7 +83,7 @@ next c =
 add-start : tie.Need-add-start Inv-loop μ-loop
 add-start c =
     let e = at-start (c .before .before .before) in
-    record { fits = omega (arith, next c .before (e .pre .1), e .pre .1 .below, fits (e .args .n) (e .args .k) (e .pre .1 .small)) }
+    record { fits = omega (arith, next c .behind (e .pre .1), e .pre .1 .below, fits (e .args .n) (e .args .k) (e .pre .1 .small)) }
 
 add-j : tie.Need-add-j Inv-loop μ-loop
 add-j c =
