@@ -27,7 +27,7 @@ use Rattle.rank.specs.Search.{grown, sourceOf, numberIn, numberOf, befor
 use Rattle.rank.specs.Ranking.{cyclesLeft, Occurs, readingOf, IsPart}
 use Rattle.rank.proofs.Grown.{grown-insert, grown-extend}
 use Rattle.rank.proofs.Reversed.{row-cycles}
-use Rattle.rank.proofs.Search.{Holds, blockRows, length-block, block-row, ahead, ahead-all, source, same-place, block-left, comes-from}
+use Rattle.rank.proofs.Search.{Holds, blockRows, length-block, block-row, ahead, ahead-all, source, block-left, comes-from}
 
 -- one entry more in a transposition array puts value m + 1 at the position that it names
 pub product-grown : {m : ℕ} {p : List ℕ} (i : ℕ) → 1 ≤ i → i ≤ suc m → IsArray m p → product (p ++ (i ∷ [])) ≡ grown (suc m) i (product p)
@@ -113,7 +113,7 @@ before-suc n k j h =
 -- blocks 0 to j−1 are passed, with `start` rows, and none of them puts n at position i: what is left of S(n,k) after these are the rows from block j on, and
 -- no row passed has n at position i
 pub record Passed (n k i start j : ℕ) : Type 0 where
-  pub number : numberOf n k i ≡ j + numberIn n k i (drop j (blocks n k))
+  pub number : numberOf n k i ≡ j + numberIn n i (drop j (blocks n k))
   pub first : start ≡ before n k false j
   pub rest : drop start (S n k) ≡ ahead n k j
   pub behind : (o : Occurs n k i) → start ≤ o .place
@@ -158,7 +158,7 @@ module _ {n k i start j : ℕ} (p : Passed n k i start j) where
     unfolding numberIn
     number-here here = p .number ∙ rw (drop-cons (blocks n k) j (E 0) l, eq-eqb _ _ here) (omega arith)
 
-    number-past : (source n k j 0 .position ≡ i → ⊥) → numberOf n k i ≡ (j + 1) + numberIn n k i (drop (j + 1) (blocks n k))
+    number-past : (source n k j 0 .position ≡ i → ⊥) → numberOf n k i ≡ (j + 1) + numberIn n i (drop (j + 1) (blocks n k))
     unfolding numberIn
     number-past other =
         rw add-one
@@ -187,7 +187,9 @@ module _ {n k i start j : ℕ} (p : Passed n k i start j) where
         record {
           number = sym (number-here here);
           inside = l;
-          source = λ t. record { position = here t; cycles = source n k j 0 .cycles; backward = source n k j 0 .backward; place = same-place n k b 0 t };
+          position = here;
+          cycles = refl;
+          backward = refl;
           first = p .first;
           left = left-of n k i b (in-place n k j) here;
           below = λ r u.

@@ -115,7 +115,7 @@ in-range : (n k : ℕ) (b : Block) (r : ℕ) → 1 ≤ n → InPlace n b → (1 
 in-range n k (I i e) r h p = omega arith
 in-range n k (E e) r h p = omega arith
 
-pub same-place : (n k : ℕ) (b : Block) (r : ℕ) → sourceOf n k b r .place ≡ r
+same-place : (n k : ℕ) (b : Block) (r : ℕ) → sourceOf n k b r .place ≡ r
 same-place n k (I i e) r = refl
 same-place n k (E e) r = refl
 

@@ -14,7 +14,7 @@ use Rattle.gray.specs.declared.Block.the-variants.{Extend as E}
 use Rattle.gray.specs.Order.{Row, S}
 use Rattle.gray.specs.Blocks.{blocks}
 use Rattle.gray.specs.Listing.{rowAt}
-use Rattle.rank.specs.Search.{grown, sourceOf, numberOf, before}
+use Rattle.rank.specs.Search.{grown, positionOf, cyclesOf, backwardOf, numberOf, before}
 use Rattle.rank.specs.declared.Part.{Part}
 
 -- the cycles without value n, where n stands at position i of a permutation with k: at position n it is a cycle of its own
@@ -39,7 +39,9 @@ readingOf backward n k = cond backward (reverse (S n k)) (S n k)
 pub record IsPart (n k i : ℕ) (p : Part) : Type 0 where
   pub number : p .block ≡ numberOf n k i
   pub inside : p .block < length (blocks n k)
-  pub source : sourceOf n k (getD (blocks n k) (p .block) (E 0)) 0 ≡ record { position = i; cycles = p .cycles; backward = p .backward; place = 0 }
+  pub position : positionOf n (getD (blocks n k) (p .block) (E 0)) ≡ i
+  pub cycles : p .cycles ≡ cyclesOf k (getD (blocks n k) (p .block) (E 0))
+  pub backward : p .backward ≡ backwardOf (getD (blocks n k) (p .block) (E 0))
   pub first : p .start ≡ before n k false (p .block)
   pub left : p .cycles ≡ cyclesLeft n k i
   pub below : (r : ℕ) → r < c (n - 1) (p .cycles) → p .start + r < c n k

@@ -19,19 +19,33 @@ use Rattle.rank.specs.declared.Source.{Source}
 abbrev pub grown : ℕ → ℕ → Row → Row
 grown n i γ = exchange i n (extend n γ)
 
--- what a block of S(n,k) makes its row at a place from: I(i,[L]e) from L = S(n−1,k), E([M]e) from M = S(n−1,k−1), backward for odd e
+-- the position at which the rows of a block of S(n,k) have value n: i for I(i,[L]e), and n for E([M]e)
+abbrev pub positionOf : ℕ → Block → ℕ
+positionOf n (I i e) = i
+positionOf n (E e) = n
+
+-- the cycles of the shorter rows: L is S(n−1,k), and M is S(n−1,k−1)
+abbrev pub cyclesOf : ℕ → Block → ℕ
+cyclesOf k (I i e) = k
+cyclesOf k (E e) = k - 1
+
+-- whether the block reads the shorter list backward: for odd e
+abbrev pub backwardOf : Block → Bool
+backwardOf (I i e) = odd e
+backwardOf (E e) = odd e
+
+-- what a block of S(n,k) makes its row at a place from
 abbrev pub sourceOf : ℕ → ℕ → Block → ℕ → Source
-sourceOf n k (I i e) place = record { position = i; cycles = k; backward = odd e; place = place }
-sourceOf n k (E e) place = record { position = n; cycles = k - 1; backward = odd e; place = place }
+sourceOf n k b place = record { position = positionOf n b; cycles = cyclesOf k b; backward = backwardOf b; place = place }
 
 -- of some blocks, the number of the first that puts value n at position i, counted from 0; where none does, how many they are
-unfoldable pub numberIn : ℕ → ℕ → ℕ → List Block → ℕ
-numberIn n k i [] = 0
-numberIn n k i (b ∷ bs) = cond (eqb (sourceOf n k b 0 .position) i) 0 (suc (numberIn n k i bs))
+unfoldable pub numberIn : ℕ → ℕ → List Block → ℕ
+numberIn n i [] = 0
+numberIn n i (b ∷ bs) = cond (eqb (positionOf n b) i) 0 (suc (numberIn n i bs))
 
 -- document 02's number of a block, "from 0 in written order": of the block of S(n,k) that puts value n at position i
 abbrev pub numberOf : ℕ → ℕ → ℕ → ℕ
-numberOf n k i = numberIn n k i (blocks n k)
+numberOf n k i = numberIn n i (blocks n k)
 
 -- how many rows of S(n,k) stand before its block j, in written order the j-th from 0, where the list is read forward, or backward: then the blocks after it come first
 unfoldable pub before : ℕ → ℕ → Bool → ℕ → ℕ

@@ -1,0 +1,3 @@
+pub mod Levels
+pub mod Following
+pub mod Explain
