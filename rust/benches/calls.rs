@@ -4,6 +4,7 @@
 #[path = "../tests/reference/mod.rs"]
 mod reference;
 
+use osierdrum::Level;
 use reference::{Random, Reference};
 use std::{hint::black_box, time::Instant};
 
@@ -58,6 +59,11 @@ fn main() {
         let ours = nanoseconds(|i| drop(black_box(osierdrum::rank(black_box(&made[i])))));
         let theirs = nanoseconds(|i| drop(black_box(reference.rank(black_box(&made[i])))));
         line("rank", n, ours, theirs);
+
+        let mut levels = [Level::default(); 20];
+        let ours = nanoseconds(|i| drop(black_box(osierdrum::explain_into(black_box(&made[i]), &mut levels))));
+        let theirs = nanoseconds(|i| drop(black_box(reference.explain(black_box(&made[i]), &mut levels))));
+        line("explain_into", n, ours, theirs);
 
         let m = count.min(1000);
         let mut page = vec![0u8; m as usize * size];

@@ -1,16 +1,17 @@
-/* The calls of libosierdrum.a. A slice passes as a pointer to its first byte and its length; a pointer may be any
- * non-null value where the length is 0. Every call takes any numbers and any bytes: what it cannot serve it refuses,
- * with zeros for the rest of its result and no byte written.
+/* The calls of libosierdrum.a. A slice passes as a pointer to its first element and its length in elements; a pointer
+ * may be any non-null value where the length is 0. Every call takes any numbers and any bytes: what it cannot serve it
+ * refuses, with zeros for the rest of its result and nothing written.
  *
  * n is 0 to 20. With n = 0, k is 0, and S(0,0) holds the one permutation of nothing, no bytes at place 0; with n from 1
  * on, k is 1 to n.
  *
  * Refusals: 0 none; 1 n is more than 20; 2 k is not 1 to n, or with n = 0 not 0; 3 place >= c(n,k); 4 m is not 1 to 1000,
  * or more rows than are left; 5 a written slice has not the length asked for; 6 a value or an entry out of range; 7 a
- * value twice. */
+ * value twice; 12 fewer levels lent than the permutation has values. */
 #ifndef OSIERDRUM_H
 #define OSIERDRUM_H
 
+#include <stdbool.h>
 #include <stddef.h>
 #include <stdint.h>
 
@@ -20,6 +21,12 @@ extern "C" {
 
 struct osierdrum_Count { uint8_t refusal; uint64_t count; };
 struct osierdrum_Rank { uint8_t refusal; uint64_t k; uint64_t place; };
+struct osierdrum_Explanation { uint8_t refusal; uint64_t k; uint64_t place; };
+
+/* One size's part of an explanation: the letter 'a' to 'e' of the relation that gives the list at that size, whether the
+ * list is read backward, the number from 0 in written order of the block that holds the permutation, and how many
+ * permutations of the list stand before that block in that reading. */
+struct osierdrum_Level { uint8_t letter; bool backward; uint64_t block; uint64_t before; };
 
 /* c(n,k), the number of permutations of n with exactly k cycles. Refusals 1, 2. */
 struct osierdrum_Count osierdrum_count(uint64_t n, uint64_t k);
@@ -38,6 +45,12 @@ uint8_t osierdrum_from_array(const uint8_t *a, size_t a_len, uint8_t *out, size_
 
 /* m permutations from a place on, one after another from byte o of buf on. Refusals 1, 2, 3, 4, 5. */
 uint8_t osierdrum_rows(uint64_t n, uint64_t k, uint64_t place, uint64_t m, uint64_t o, uint8_t *buf, size_t buf_len);
+
+/* The number of cycles of a permutation and its place, and what makes it that place: a level for each size from n down
+ * to 1, to the first n levels; those after them stay. The numbers before add up to the place. levels_len counts levels,
+ * not bytes. Refusals 1, 6, 7, 12. The two slices do not overlap. */
+struct osierdrum_Explanation osierdrum_explain(const uint8_t *s, size_t s_len,
+                                               struct osierdrum_Level *levels, size_t levels_len);
 
 #ifdef __cplusplus
 }

@@ -1,4 +1,7 @@
-//! The calls of `libosierdrum.a`, declared once. A `&[u8]` of the library passes as a pointer and then a length.
+//! The calls of `libosierdrum.a`, declared once. A slice of the library passes as a pointer and then a length, which
+//! counts elements.
+
+use crate::Level;
 
 #[repr(C)]
 pub struct Count {
@@ -13,6 +16,13 @@ pub struct Rank {
     pub place: u64,
 }
 
+#[repr(C)]
+pub struct Explanation {
+    pub refusal: u8,
+    pub k: u64,
+    pub place: u64,
+}
+
 extern "C" {
     pub fn osierdrum_count(n: u64, k: u64) -> Count;
     pub fn osierdrum_unrank(n: u64, k: u64, place: u64, out: *mut u8, out_len: usize) -> u8;
@@ -20,4 +30,5 @@ extern "C" {
     pub fn osierdrum_to_array(s: *const u8, s_len: usize, out: *mut u8, out_len: usize) -> u8;
     pub fn osierdrum_from_array(a: *const u8, a_len: usize, out: *mut u8, out_len: usize) -> u8;
     pub fn osierdrum_rows(n: u64, k: u64, place: u64, m: u64, o: u64, buf: *mut u8, buf_len: usize) -> u8;
+    pub fn osierdrum_explain(s: *const u8, s_len: usize, levels: *mut Level, levels_len: usize) -> Explanation;
 }

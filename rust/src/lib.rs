@@ -7,7 +7,7 @@
 //!
 //! The work is done by `libosierdrum.a`, whose every function is proved to meet its contract for all inputs. Nothing
 //! that is handed in can make a call read or write outside its slices or fail to return; what a call cannot serve it
-//! refuses with a [`Refusal`], and then no byte of a lent slice has changed.
+//! refuses with a [`Refusal`], and then nothing in a lent slice has changed.
 //!
 //! ```
 //! // the eleven permutations of 4 with 2 cycles, and the last of them
@@ -50,17 +50,24 @@ pub enum Refusal {
     Value = 6,
     /// 7: a value occurs twice.
     Twice = 7,
+    /// 12: fewer levels were lent than the permutation has values.
+    Levels = 12,
 }
 
 impl Refusal {
-    const ALL: [Refusal; 7] =
-        [Refusal::Size, Refusal::Cycles, Refusal::Place, Refusal::Rows, Refusal::Lent, Refusal::Value, Refusal::Twice];
-
-    /// The library's refusal number as a result: 0 is none. The library's contracts give no number but 0 to 7.
+    /// The library's refusal number as a result: 0 is none. The library's contracts give no number but these.
     fn checked(number: u8) -> Result<(), Refusal> {
         match number {
             0 => Ok(()),
-            _ => Err(Self::ALL[usize::from(number) - 1]),
+            1 => Err(Refusal::Size),
+            2 => Err(Refusal::Cycles),
+            3 => Err(Refusal::Place),
+            4 => Err(Refusal::Rows),
+            5 => Err(Refusal::Lent),
+            6 => Err(Refusal::Value),
+            7 => Err(Refusal::Twice),
+            12 => Err(Refusal::Levels),
+            _ => unreachable!("no call refuses {number}"),
         }
     }
 }
@@ -75,6 +82,7 @@ impl fmt::Display for Refusal {
             Refusal::Lent => "a lent slice has not the length that is asked for",
             Refusal::Value => "a value or an entry is out of range",
             Refusal::Twice => "a value occurs twice",
+            Refusal::Levels => "fewer levels were lent than the permutation has values",
         };
         write!(f, "refused {}: {why}", *self as u8)
     }
@@ -95,6 +103,52 @@ pub struct Rank {
     pub k: u64,
     /// Its place in S(n,k), from 0.
     pub place: u64,
+}
+
+/// One size's part of an explanation: where the block that holds the permutation stands in the list at that size.
+///
+/// The list at a size is joined from blocks by one of document 01's relations (a) to (e). The two permutations that (a)
+/// writes out at size 3 are blocks 0 and 1; a list of one permutation is block 0.
+///
+/// ```
+/// let level = osierdrum::Level { letter: b'e', backward: false, block: 3, before: 33 };
+/// assert_eq!(level.to_string(), "e 3 forward 33");
+/// ```
+#[repr(C)]
+#[derive(Clone, Copy, Debug, PartialEq, Eq, Hash, Default)]
+pub struct Level {
+    /// The letter of the relation that gives the list, `b'a'` to `b'e'`.
+    pub letter: u8,
+    /// Whether the list is read backward.
+    pub backward: bool,
+    /// The block's number from 0, in written order.
+    pub block: u64,
+    /// How many permutations of the list stand before the block in that reading.
+    pub before: u64,
+}
+
+impl fmt::Display for Level {
+    fn fmt(&self, f: &mut fmt::Formatter<'_>) -> fmt::Result {
+        let reading = if self.backward { "backward" } else { "forward" };
+        write!(f, "{} {} {reading} {}", char::from(self.letter), self.block, self.before)
+    }
+}
+
+/// What makes a permutation's place that place: a level for each size from n down to 1, n its length.
+///
+/// ```
+/// let why = osierdrum::explain(&[3, 1, 4, 2, 5])?;
+/// assert_eq!((why.k, why.place, why.levels.len()), (2, 38, 5));
+/// # Ok::<(), osierdrum::Refusal>(())
+/// ```
+#[derive(Clone, Debug, PartialEq, Eq, Hash)]
+pub struct Explanation {
+    /// The permutation's number of cycles.
+    pub k: u64,
+    /// Its place in S(n,k), from 0; the levels' numbers before add up to it.
+    pub place: u64,
+    /// The levels, size n first; the blocks, followed downward from n and k, lead to this permutation and no other.
+    pub levels: Vec<Level>,
 }
 
 /// c(n,k): how many permutations of n have exactly k cycles, which is the length of S(n,k).
@@ -189,4 +243,42 @@ pub fn from_array(a: &[u8], out: &mut [u8]) -> Result<(), Refusal> {
 pub fn rows(n: u64, k: u64, place: u64, m: u64, offset: u64, buf: &mut [u8]) -> Result<(), Refusal> {
     // SAFETY: the pointer and the length are those of one slice that is ours to write.
     Refusal::checked(unsafe { ffi::osierdrum_rows(n, k, place, m, offset, buf.as_mut_ptr(), buf.len()) })
+}
+
+/// What makes a permutation's place that place, to be followed by hand; n is the slice's length. The list at size n is
+/// read forward, and the reading turns below a block that its relation takes reversed.
+///
+/// Refusals, in this order: [`Refusal::Size`], [`Refusal::Value`], [`Refusal::Twice`].
+///
+/// ```
+/// let why = osierdrum::explain(&[3, 1, 4, 2, 5])?;
+/// assert_eq!((why.k, why.place), (2, 38));
+/// let levels: Vec<String> = why.levels.iter().map(ToString::to_string).collect();
+/// assert_eq!(levels, ["e 3 forward 33", "a 2 forward 4", "a 0 backward 1", "a 0 backward 0", "a 0 backward 0"]);
+/// assert_eq!(why.levels.iter().map(|level| level.before).sum::<u64>(), 38);
+/// # Ok::<(), osierdrum::Refusal>(())
+/// ```
+pub fn explain(s: &[u8]) -> Result<Explanation, Refusal> {
+    // a longer slice is refused before its levels are counted
+    let mut levels = vec![Level::default(); s.len().min(20)];
+    explain_into(s, &mut levels).map(|Rank { k, place }| Explanation { k, place, levels })
+}
+
+/// As [`explain`], with the levels written to the first n of `levels`; those after them stay.
+///
+/// Refusals, in this order: [`Refusal::Size`], [`Refusal::Value`], [`Refusal::Twice`], [`Refusal::Levels`].
+///
+/// ```
+/// use osierdrum::{explain_into, Level, Rank, Refusal};
+/// let mut levels = [Level::default(); 20]; // room for every size
+/// assert_eq!(explain_into(&[2, 3, 1], &mut levels), Ok(Rank { k: 1, place: 1 }));
+/// assert_eq!(levels[0], Level { letter: b'a', backward: false, block: 1, before: 1 });
+/// assert_eq!(levels[3], Level::default()); // as it was
+/// assert_eq!(explain_into(&[2, 3, 1], &mut levels[..2]), Err(Refusal::Levels));
+/// ```
+pub fn explain_into(s: &[u8], levels: &mut [Level]) -> Result<Rank, Refusal> {
+    // SAFETY: each pointer and length are those of one slice, the written one is ours alone, and a level has the library's
+    // layout.
+    let answer = unsafe { ffi::osierdrum_explain(s.as_ptr(), s.len(), levels.as_mut_ptr(), levels.len()) };
+    Refusal::checked(answer.refusal).map(|()| Rank { k: answer.k, place: answer.place })
 }

@@ -1,10 +1,10 @@
 //! Numbers, slices and offsets that nobody should hand in, in every call, with guard bytes around what is lent: the refusal is document 01's, and
-//! no other byte changes.
+//! no other byte changes. The same for `explain` stands in `explain.rs`.
 
 mod reference;
 
 use osierdrum::{count, from_array, rank, rows, to_array, unrank, Refusal};
-use reference::{Random, Reference};
+use reference::{damaged, Random, Reference};
 
 /// Numbers at and beside every bound of document 01, and at the ends of the machine's words.
 const NUMBERS: [u64; 22] = [
@@ -109,21 +109,6 @@ fn offsets_in_rows() {
             }
         }
     }
-}
-
-/// A list of bytes that is near a permutation, an array, or neither.
-fn damaged(random: &mut Random, n: usize) -> Vec<u8> {
-    let mut s: Vec<u8> = (1..=n).map(|i| i as u8).collect();
-    for i in (1..n).rev() {
-        s.swap(i, random.below(i as u64 + 1) as usize);
-    }
-    match random.below(4) {
-        0 => {}
-        1 if n > 0 => s[random.below(n as u64) as usize] = random.next() as u8,
-        2 if n > 0 => s[random.below(n as u64) as usize] = random.below(n as u64 + 2) as u8,
-        _ => s.iter_mut().enumerate().for_each(|(i, p)| *p = random.below(i as u64 + 2) as u8),
-    }
-    s
 }
 
 #[test]

@@ -1,7 +1,9 @@
 //! The empty list: every call with n = 0, or with a slice of no bytes, as document 02, a), has it. The values stand here as written, not from the
 //! reference; the other tests compare n = 0 with the reference among the rest.
 
-use osierdrum::{count, from_array, rank, rows, to_array, unrank, Rank, Refusal};
+use osierdrum::{
+    count, explain, explain_into, from_array, rank, rows, to_array, unrank, Explanation, Level, Rank, Refusal,
+};
 
 /// A call on a lent slice of `size` bytes, with guards: its result. No byte changes, whether it is served or refused.
 fn lent(size: usize, call: impl Fn(&mut [u8]) -> Result<(), Refusal>) -> Result<(), Refusal> {
@@ -41,6 +43,21 @@ fn place_of_a_permutation() {
     assert_eq!(rank(&[1]), Ok(Rank { k: 1, place: 0 }));
     assert_eq!(rank(&[0]), Err(Refusal::Value));
     assert_eq!(rank(&[0; 21]), Err(Refusal::Size));
+}
+
+#[test]
+fn explanation_of_a_place() {
+    assert_eq!(explain(&[]), Ok(Explanation { k: 0, place: 0, levels: vec![] }));
+    assert_eq!(explain(&[0]), Err(Refusal::Value));
+    assert_eq!(explain(&[0; 21]), Err(Refusal::Size));
+    let lent = Level { letter: b'x', backward: true, block: 7, before: 7 };
+    let mut levels = [lent; 3];
+    for size in [0, 1] {
+        assert_eq!(explain_into(&[], &mut levels[1..1 + size]), Ok(Rank { k: 0, place: 0 }));
+        assert_eq!(explain_into(&[0], &mut levels[1..1 + size]), Err(Refusal::Value));
+    }
+    assert_eq!(explain_into(&[1], &mut levels[1..1]), Err(Refusal::Levels));
+    assert_eq!(levels, [lent; 3]);
 }
 
 #[test]

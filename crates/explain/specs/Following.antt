@@ -36,6 +36,6 @@ Leads zero k backward [] t = (k ≡ 0) × (t ≡ [])
 Leads zero k backward (row ∷ rows) t = ⊥
 Leads (suc m) k backward [] t = ⊥
 Leads (suc m) k backward (row ∷ rows) t =
-    (b : Block) × (γ : Row) × (Names (suc m) k backward row b
+    (b : Block) × (γ : Row) × Names (suc m) k backward row b
     × Leads m (cyclesOf k b) (turned backward (backwardOf b)) rows γ
-    × (t ≡ made (suc m) b γ))
+    × (t ≡ made (suc m) b γ)

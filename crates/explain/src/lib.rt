@@ -2,7 +2,7 @@
 // how many of its rows stand before the block. By value; crate `osierdrum` writes the rows to the caller's.
 use gray::Letter;
 ghost use mathlib.Core.Path.{_≡_};
-ghost use Prim.Native.Nat.{_≤_};
+ghost use Prim.Native.Nat.{_-_};
 ghost use mathlib.Core.Bool.{false};
 ghost use mathlib.Core.List.{_++_};
 ghost use lib.ListN.{length, replicate};
@@ -10,7 +10,7 @@ ghost use Rattle.stirling.specs.Count.{IsTable};
 ghost use Rattle.perm.specs.Array.{product};
 ghost use Rattle.rank.specs.Search.{cyclesOf, backwardOf};
 ghost use Rattle.rank.specs.Ranking.{Occurs, Rankable};
-ghost use Rattle.explain.specs.Levels.{letterByte, level, turned, blockWith, levels};
+ghost use Rattle.explain.specs.Levels.{letterByte, level, turned, blockWith, levels, total};
 ghost use Rattle.explain.specs.Explain.{blank, IsExplained};
 
 // The refusal of check 12.
@@ -40,6 +40,14 @@ pub struct Explained {
     pub count: usize,
     pub rows: [Level; 20],
 }
+
+// A row of zeros.
+const BLANK: Level = Level {
+    letter: 0,
+    backward: false,
+    block: 0,
+    before: 0,
+};
 
 // The row of one size, and what it hands down: the cycles and the reading of the list one size below.
 struct Rung {
@@ -99,15 +107,13 @@ fn rung_at(counts: &[u64], n: u64, k: u64, backward: bool, i: u64) -> Rung
 fn descend(counts: &[u64], a: &[u8], k: u64) -> Descent
     requires { ⌜ IsTable (now counts) ⌝ }
     requires { ⌜ Rankable (now a) k ⌝ }
+    ensures { λ r. ⌜ r ≡ record {
+        place = total (levels (length (now (a .entry))) k false (product (now (a .entry))));
+        rows = levels (length (now (a .entry))) k false (product (now (a .entry))) ++ replicate (20 - length (now (a .entry))) blank;
+    } ⌝ }
 {
     let n = a.len();
-    let blank = Level {
-        letter: 0,
-        backward: false,
-        block: 0,
-        before: 0,
-    };
-    let mut rows = [blank; 20];
+    let mut rows = [BLANK; 20];
     let mut place = 0;
     let mut cycles = k;
     let mut backward = false;
@@ -129,13 +135,12 @@ fn descend(counts: &[u64], a: &[u8], k: u64) -> Descent
 
 // A refusal, with nothing to write.
 fn unexplained(refusal: u8) -> Explained
+    ensures { λ r. ⌜ r ≡ record {
+        answer = record { refusal = refusal; k = 0; place = 0 };
+        count = 0;
+        rows = replicate 20 blank;
+    } ⌝ }
 {
-    let blank = Level {
-        letter: 0,
-        backward: false,
-        block: 0,
-        before: 0,
-    };
     Explained {
         answer: Explanation {
             refusal,
@@ -143,7 +148,7 @@ fn unexplained(refusal: u8) -> Explained
             place: 0,
         },
         count: 0,
-        rows: [blank; 20],
+        rows: [BLANK; 20],
     }
 }
 

@@ -3,11 +3,11 @@ use mathlib.Core.Path.{_≡_, refl, _∙_, ap, sym}
 use Prim.Native.Nat.{ℕ, zero, suc, _-_, _≤_, _<_}
 use native.Mathlib.Omega.{arith}
 use mathlib.Core.List.{List, [], _∷_, _++_}
-use lib.ListN.{length, getD, length-set}
+use lib.ListN.{length, getD, take, length-set}
 use lib.Seq.{set-set, set-getD, take-at}
 use borrow.Author.Tests.{eq-eqb, ne-eqb}
 use Rattle.perm.specs.Lists.{range}
-use Rattle.perm.specs.Permutation.{IsPermutation, at, put, extend, insert}
+use Rattle.perm.specs.Permutation.{IsPermutation, at, put, exchange, extend, insert}
 use Rattle.perm.specs.Array.{IsArray, IsArrayOf, partial, product, position, arrayOf}
 use Rattle.perm.proofs.Values.{injective, at-suc}
 use Rattle.perm.proofs.Split.{Split, extended, inserted, split, extend-permutation, insert-permutation, at-extend-top, at-insert-here}
@@ -30,21 +30,31 @@ position-at {n} {s} p i h k =
     λ j l e. omega (arith, injective p i (suc j) h k (omega arith) (omega arith) (e ∙ sym (at-suc s j))) in
     position-first (at s i) s (i - 1) (omega arith) refl only ∙ omega arith
 
--- the array of E(γ)
-array-extend : {m : ℕ} {γ : List ℕ} → IsPermutation m γ → arrayOf (suc m) (extend (suc m) γ) ≡ arrayOf m γ ++ (suc m ∷ [])
-unfolding arrayOf extend
-array-extend {m} {γ} p =
-    let e = rw (at-extend-top γ (p .size)) at (position-at (extend-permutation p) (suc m) (omega arith) (omega arith)) in
-    rw (e, exchange-same, take-at γ (suc m ∷ []) m (p .size))
+-- value m + 1 of s stands at position i, and s without it, once it is exchanged to the last position, is γ
+pub record Without (m : ℕ) (s : List ℕ) (i : ℕ) (γ : List ℕ) : Type 0 where
+  pub here : position (suc m) s ≡ i
+  pub left : take m (exchange (position (suc m) s) (suc m) s) ≡ γ
 
--- the array of I(i,γ)
-array-insert : {m : ℕ} {γ : List ℕ} (i : ℕ) → 1 ≤ i → i ≤ m → IsPermutation m γ → arrayOf (suc m) (insert (suc m) i γ) ≡ arrayOf m γ ++ (i ∷ [])
-unfolding arrayOf insert
-array-insert {m} {γ} i h k p =
+-- E(γ) without m + 1
+pub without-extend : {m : ℕ} {γ : List ℕ} → IsPermutation m γ → Without m (extend (suc m) γ) (suc m) γ
+unfolding extend
+without-extend {m} {γ} p =
+    let e = rw (at-extend-top γ (p .size)) at (position-at (extend-permutation p) (suc m) (omega arith) (omega arith)) in
+    record { here = e; left = rw (e, exchange-same, take-at γ (suc m ∷ []) m (p .size)) }
+
+-- I(i,γ) without m + 1
+pub without-insert : {m : ℕ} {γ : List ℕ} (i : ℕ) → 1 ≤ i → i ≤ m → IsPermutation m γ → Without m (insert (suc m) i γ) i γ
+unfolding insert
+without-insert {m} {γ} i h k p =
     let e = rw (at-insert-here γ i h k (p .size)) at (position-at (insert-permutation i h k p) i h (omega arith)) in
     let l : length (put γ i (suc m)) ≡ m = length-set γ (i - 1) (suc m) ∙ p .size in
     let top = exchange-top i (at γ i) (put γ i (suc m)) l h k in
-    rw (e, top, set-set, set-getD, take-at γ _ m (p .size))
+    record { here = e; left = rw (e, top, set-set, set-getD, take-at γ _ m (p .size)) }
+
+-- so the array has one entry more
+array-without : {m i : ℕ} {s γ : List ℕ} → Without m s i γ → arrayOf (suc m) s ≡ arrayOf m γ ++ (i ∷ [])
+unfolding arrayOf
+array-without w = rw (w .left, w .here)
 
 -- an array of n entries whose product is s; by the last value, with the statement for n at hand
 abbrev Computed : ℕ → List ℕ → Type 0
@@ -53,10 +63,10 @@ Computed n s = IsArray n (arrayOf n s) × (product (arrayOf n s) ≡ s)
 computed-split : {n : ℕ} {s : List ℕ} → ((γ : List ℕ) → IsPermutation n γ → Computed n γ) → Split n s → Computed (suc n) s
 computed-split {n} ih (extended γ g) =
     let (a, e) = ih γ g in
-    rw (array-extend g) (array-append (suc n) (omega arith) (omega arith) a, product-extend a ∙ ap (extend (suc n)) e)
+    rw (array-without (without-extend g)) (array-append (suc n) (omega arith) (omega arith) a, product-extend a ∙ ap (extend (suc n)) e)
 computed-split {n} ih (inserted i γ h k g) =
     let (a, e) = ih γ g in
-    rw (array-insert i h k g) (array-append i h (omega arith) a, product-insert i h k a ∙ ap (insert (suc n) i) e)
+    rw (array-without (without-insert i h k g)) (array-append i h (omega arith) a, product-insert i h k a ∙ ap (insert (suc n) i) e)
 
 computed : (n : ℕ) (s : List ℕ) → IsPermutation n s → Computed n s
 unfolding arrayOf product partial range

@@ -62,7 +62,7 @@ same-position {m} i j hi hj γ δ e =
     ∙ getD-at q j [] 0 m (b .size)
 
 -- the same of a permutation of n
-one-position : (n i j : ℕ) {γ δ : Row}
+pub one-position : (n i j : ℕ) {γ δ : Row}
     → (1 ≤ i) × (i ≤ n)
     → (1 ≤ j) × (j ≤ n)
     → IsPermutation (n - 1) γ
@@ -74,23 +74,8 @@ one-position (suc m) i j hi hj γ δ e =
     let y : suc m - 1 ≡ m = omega arith in
     same-position i j hi hj (rw y at γ) (rw y at δ) e
 
--- the position of a block does not depend on the place
-same-position-of : (n k : ℕ) (b : Block) (r : ℕ) → sourceOf n k b r .position ≡ sourceOf n k b 0 .position
-same-position-of n k (I i e) r = refl
-same-position-of n k (E e) r = refl
-
--- the row of a block at a place, with the block's own position, cycles and reading
-block-made : (n k : ℕ) (b : Block) (r : ℕ)
-    → 1 ≤ n
-    → InPlace n b
-    → r < c (n - 1) (sourceOf n k b 0 .cycles)
-    → rowAt (blockRows n k b) r
-    ≡ grown n (sourceOf n k b 0 .position) (rowAt (readingOf (sourceOf n k b 0 .backward) (n - 1) (sourceOf n k b 0 .cycles)) r)
-block-made n k (I i e) r h p l = block-row n k (I i e) r h p l
-block-made n k (E e) r h p l = block-row n k (E e) r h p l
-
 -- a block that puts n at position i is made from a list with the cycles that are left
-left-of : (n k i : ℕ) (b : Block) → InPlace n b → sourceOf n k b 0 .position ≡ i → sourceOf n k b 0 .cycles ≡ cyclesLeft n k i
+pub left-of : (n k i : ℕ) (b : Block) → InPlace n b → sourceOf n k b 0 .position ≡ i → sourceOf n k b 0 .cycles ≡ cyclesLeft n k i
 left-of n k i (I x e) p q = rw (ne-eqb i n (omega arith))
 left-of n k i (E e) p q = rw (eq-eqb i n (sym q))
 
@@ -99,9 +84,7 @@ elsewhere : {n k i : ℕ} (j r : ℕ) → (source n k j 0 .position ≡ i → �
 elsewhere {n} {k} {i} j r other o w =
     let s = source n k j r in
     let shorter = row-cycles (n - 1) (s .cycles) (s .place) (s .backward) (w .below) in
-    other
-    (sym (same-position-of n k (block (blocks n k) j) r)
-    ∙ one-position n (s .position) i (w .position) (o .position) (shorter .permutation) (o .permutation) (sym (w .row) ∙ o .row))
+    other (one-position n (s .position) i (w .position) (o .position) (shorter .permutation) (o .permutation) (sym (w .row) ∙ o .row))
 
 -- the rows up to block j + 1 are those up to block j and those of block j
 before-suc : (n k j : ℕ) → j < length (blocks n k) → before n k false (suc j) ≡ before n k false j + c (n - 1) (source n k j 0 .cycles)
@@ -198,6 +181,6 @@ module _ {n k i start j : ℕ} (p : Passed n k i start j) where
               sym (getD-drop start (S n k) r [])
               ∙ ap (λ (rs : List Row). rowAt rs r) ahead-block
               ∙ List·getD-append (blockRows n k b) (ahead n k (suc j)) [] r (omega arith)
-              ∙ block-made n k b r h (in-place n k j) u
+              ∙ block-row n k b r h (in-place n k j) u
               ∙ ap (λ (x : ℕ). grown n x (rowAt (readingOf (source n k j 0 .backward) (n - 1) (source n k j 0 .cycles)) r)) here;
         }

@@ -17,7 +17,7 @@ use Rattle.gray.specs.Listing.{rowAt}
 use Rattle.gray.proofs.Indexed.{block}
 use Rattle.gray.proofs.InPlace.{InPlace, in-place}
 use Rattle.rank.specs.declared.Source.{Source}
-use Rattle.rank.specs.Search.{grown, sourceOf, sourceRow, ComesFrom}
+use Rattle.rank.specs.Search.{grown, positionOf, sourceOf, sourceRow, ComesFrom}
 use Rattle.gray.proofs.Joined.{S-blocks}
 use Rattle.gray.proofs.Once.{length-S}
 use Rattle.rank.proofs.Reversed.{row-size}
@@ -111,13 +111,9 @@ ahead-all (suc n) k h = let e : suc n - 1 ≡ n = omega arith in rw e (S-blocks 
 abbrev pub source : ℕ → ℕ → ℕ → ℕ → Source
 source n k j r = sourceOf n k (block (blocks n k) j) r
 
-in-range : (n k : ℕ) (b : Block) (r : ℕ) → 1 ≤ n → InPlace n b → (1 ≤ sourceOf n k b r .position) × (sourceOf n k b r .position ≤ n)
-in-range n k (I i e) r h p = omega arith
-in-range n k (E e) r h p = omega arith
-
-same-place : (n k : ℕ) (b : Block) (r : ℕ) → sourceOf n k b r .place ≡ r
-same-place n k (I i e) r = refl
-same-place n k (E e) r = refl
+pub in-range : (n : ℕ) (b : Block) → 1 ≤ n → InPlace n b → (1 ≤ positionOf n b) × (positionOf n b ≤ n)
+in-range n (I i e) h p = omega arith
+in-range n (E e) h p = omega arith
 
 -- the search: it starts with all blocks ahead; while the row is ahead there is a block; the row comes from this block, or is ahead of it
 pub starts : (n k place : ℕ) → 1 ≤ n → place < c n k → Holds (ahead n k 0) (rowAt (S n k) place) place
@@ -132,8 +128,8 @@ module _ (n k place j r : ℕ) (h : 1 ≤ n) (w : Holds (ahead n k j) (rowAt (S 
       let b = block (blocks n k) j in
       let p = in-place n k j in
       record {
-        position = in-range n k b r h p;
-        below = rw (same-place n k b r) l;
+        position = in-range n b h p;
+        below = l;
         row = within n _ _ (blocks n k) j w (rw (length-block n k b r) l) ∙ block-row n k b r h p l;
       }
 

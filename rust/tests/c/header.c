@@ -14,6 +14,17 @@ static int empty_list(void) {
     rank = osierdrum_rank(&byte, 1);
     if (rank.refusal != 6 || rank.k != 0 || rank.place != 0) return 24;
 
+    struct osierdrum_Level levels[3], before[3];
+    memset(levels, 1, sizeof levels);
+    memcpy(before, levels, sizeof levels);
+    for (size_t len = 0; len <= 1; len++) {
+        struct osierdrum_Explanation why = osierdrum_explain(&byte, 0, levels + 1, len);
+        if (why.refusal != 0 || why.k != 0 || why.place != 0) return 39;
+        why = osierdrum_explain(&byte, 1, levels + 1, len);
+        if (why.refusal != 6 || why.k != 0 || why.place != 0) return 40;
+    }
+    if (memcmp(levels, before, sizeof levels) != 0) return 41;
+
     for (size_t len = 0; len <= 1; len++) {
         uint8_t longer = len == 0 ? 0 : 5;
         if (osierdrum_unrank(0, 0, 0, lent + 1, len) != longer) return 25;
@@ -32,6 +43,38 @@ static int empty_list(void) {
         if (osierdrum_rows(0, 1, 0, 1, 0, lent + 1, len) != 2) return 35;
     }
     return memcmp(lent, (const uint8_t[]){7, 7, 7}, 3) == 0 ? 0 : 36;
+}
+
+static int explanation(void) {
+    const uint8_t row[5] = {3, 1, 4, 2, 5}, twice[5] = {3, 1, 4, 2, 4}, wide[21] = {0};
+    const struct osierdrum_Level right[5] = {
+        {.letter = 'e', .backward = false, .block = 3, .before = 33},
+        {.letter = 'a', .backward = false, .block = 2, .before = 4},
+        {.letter = 'a', .backward = true, .block = 0, .before = 1},
+        {.letter = 'a', .backward = true, .block = 0, .before = 0},
+        {.letter = 'a', .backward = true, .block = 0, .before = 0},
+    };
+    struct osierdrum_Level levels[7], before[7];
+    memset(levels, 1, sizeof levels);
+    memcpy(before, levels, sizeof levels);
+
+    struct osierdrum_Explanation why = osierdrum_explain(row, sizeof row, levels + 1, 4);
+    if (why.refusal != 12 || why.k != 0 || why.place != 0) return 51;
+    why = osierdrum_explain(twice, sizeof twice, levels + 1, 4);
+    if (why.refusal != 7 || why.k != 0 || why.place != 0) return 52;
+    why = osierdrum_explain(wide, sizeof wide, levels + 1, 4);
+    if (why.refusal != 1 || why.k != 0 || why.place != 0) return 53;
+    if (memcmp(levels, before, sizeof levels) != 0) return 54;
+
+    why = osierdrum_explain(row, sizeof row, levels + 1, 6);
+    if (why.refusal != 0 || why.k != 2 || why.place != 38) return 55;
+    for (size_t i = 0; i < 5; i++) {
+        const struct osierdrum_Level *given = &levels[i + 1];
+        if (given->letter != right[i].letter || given->backward != right[i].backward) return 56;
+        if (given->block != right[i].block || given->before != right[i].before) return 57;
+    }
+    if (memcmp(&levels[0], &before[0], sizeof levels[0]) != 0) return 58;
+    return memcmp(&levels[6], &before[6], sizeof levels[6]) == 0 ? 0 : 59;
 }
 
 int main(void) {
@@ -56,5 +99,6 @@ int main(void) {
     if (osierdrum_rows(5, 2, 38, 2, 1, page, sizeof page) != 0) return 10;
     if (memcmp(page, (const uint8_t[]){9, 3, 1, 4, 2, 5, 3, 5, 1, 2, 4, 9}, 12) != 0) return 11;
     if (osierdrum_rows(5, 2, 38, 2, 3, page, sizeof page) != 5) return 12;
-    return empty_list();
+    int wrong = explanation();
+    return wrong != 0 ? wrong : empty_list();
 }

@@ -1,8 +1,12 @@
 //! An implementation of document 01's calls that shares nothing with the library: written from the procedure `gen_up` in the appendix of source
 //! document 004 (products on the left, the inverse kept beside the permutation), with the sense of each sublist as relations (a) to (e) give it.
-//! The tests and the benchmark compare the library with it.
+//! The tests and the benchmark compare the library with it. Its levels have the wrapper's type, to be lent the same.
 
 #![allow(dead_code)]
+
+pub mod relations;
+
+use osierdrum::Level;
 
 pub const MOST: usize = 20;
 
@@ -278,6 +282,53 @@ impl Reference {
         Ok((cycles as u64, place))
     }
 
+    /// The letter of the relation that gives S(n,k).
+    fn letter(n: usize, k: usize) -> u8 {
+        match n - k {
+            _ if k == 1 => b'a',
+            0 => b'b',
+            1 => b'c',
+            2 => b'd',
+            _ => b'e',
+        }
+    }
+
+    /// As `rank`, with a level written at each size. Two things are the papers' and not `gen_up`'s: it goes on where n = k; and below 3, where each
+    /// list has one row and `gen_up` may turn it either way, the reading passes down unchanged.
+    pub fn explain(&self, s: &[u8], levels: &mut [Level]) -> Result<(u64, u64), u8> {
+        if s.len() > MOST {
+            return Err(1);
+        }
+        Self::permutation(s)?;
+        if levels.len() < s.len() {
+            return Err(12);
+        }
+        let mut array = [0; MOST];
+        Self::array(s, &mut array[..s.len()]);
+        let cycles = Self::cycles(s);
+        let (mut k, mut up, mut place) = (cycles, true, 0);
+        for (level, n) in levels.iter_mut().zip((1..=s.len()).rev()) {
+            *level = Level { letter: Self::letter(n, k), backward: !up, block: 0, before: 0 };
+            if n == k {
+                k -= 1;
+                continue;
+            }
+            let instructions = calls(n, k);
+            let mut at = 0;
+            while let Some(call) = instructions.get(at, up) {
+                if call.j == usize::from(array[n - 1]) {
+                    level.block = (if up { at } else { instructions.len - 1 - at }) as u64;
+                    (k, up) = (call.k, if n > 3 { call.up } else { up });
+                    break;
+                }
+                level.before += self.c[n - 1][call.k];
+                at += 1;
+            }
+            place += level.before;
+        }
+        Ok((cycles as u64, place))
+    }
+
     pub fn to_array(&self, s: &[u8], out: &mut [u8]) -> Result<(), u8> {
         if s.len() > MOST {
             return Err(1);
@@ -346,4 +397,19 @@ impl Random {
     pub fn below(&mut self, bound: u64) -> u64 {
         self.next() % bound
     }
+}
+
+/// A list of bytes that is near a permutation, an array, or neither.
+pub fn damaged(random: &mut Random, n: usize) -> Vec<u8> {
+    let mut s: Vec<u8> = (1..=n).map(|i| i as u8).collect();
+    for i in (1..n).rev() {
+        s.swap(i, random.below(i as u64 + 1) as usize);
+    }
+    match random.below(4) {
+        0 => {}
+        1 if n > 0 => s[random.below(n as u64) as usize] = random.next() as u8,
+        2 if n > 0 => s[random.below(n as u64) as usize] = random.below(n as u64 + 2) as u8,
+        _ => s.iter_mut().enumerate().for_each(|(i, p)| *p = random.below(i as u64 + 2) as u8),
+    }
+    s
 }

@@ -1,0 +1,6 @@
+pub mod Without
+pub mod Before
+pub mod Levels
+pub mod Following
+pub mod Rungs
+pub mod Descending
