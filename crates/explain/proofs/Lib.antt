@@ -4,3 +4,5 @@ pub mod Levels
 pub mod Following
 pub mod Rungs
 pub mod Descending
+pub mod ByValue
+pub mod Writes

@@ -1,56 +1,64 @@
+-- `explain::explain` meets its contract: a refusal is that of the permutation's reading, or 12 where too few rows are lent; otherwise its rows are gone down. Assumes
+-- nothing.
 use borrow.Author.Needs.{needs}
+use mathlib.Core.Path.{sym}
+use native.Mathlib.Omega.{arith}
+use Rattle.stirling.proofs.Refusals.{then-stops}
+use Rattle.rank.proofs.Stands.{entries-array, entries-inside, entries-rankable}
+use Rattle.explain.proofs.ByValue.{is-refused, is-short, is-explained}
 use Rattle.explain.proofs.explain.Statement.{statement}
 use Rattle.explain.proofs.explain.Tie as tie
-use Rattle.explain.proofs.explain.Reads as reads
-use Rattle.explain.proofs.explain.Lts as lts
-use Rattle.explain.proofs.descend.Reads as descend-reads
-use Rattle.explain.proofs.unexplained.Reads as unexplained-reads
-use Rattle.rank.proofs.entries_of.Reads as entries-of-reads
-use Rattle.stirling.proofs.table.Reads as table-reads
 
--- src/lib.rt:159:9
 entries-of-requires : tie.Need-entries-of-requires
 entries-of-requires c κs = search needs
 
--- src/lib.rt:161:9
 unexplained-requires : tie.Need-unexplained-requires
 unexplained-requires c κs = search needs
 
--- src/lib.rt:161:9
 returns : tie.Need-returns
-returns c = ?
+returns c =
+    let t = c .before in
+    let read = t .before .before in
+    let s = read .before .before .args in
+    is-refused (s .s .now) (s .lent) _ _ (then-stops _ _ _ (read .entries-of .ensures .refusal) (t .if1 .taken)) (t .if1 .taken) (c .unexplained .ensures)
 
--- src/lib.rt:165:9
 unexplained-requires-2 : tie.Need-unexplained-requires-2
 unexplained-requires-2 c κs = search needs
 
--- src/lib.rt:165:9
 returns-2 : tie.Need-returns-2
-returns-2 c = ?
+returns-2 c =
+    let t = c .before in
+    let o = t .before in
+    let s = o .before .before .before .before .args in
+    let short = is-short (o .before .before .entries-of .ensures) (o .if1 .left) (s .lent) (t .if2 .taken) in
+    is-refused (s .s .now) (s .lent) 12 _ short (λ z. omega arith) (c .unexplained2 .ensures)
 
--- src/lib.rt:168:18
 table-requires : tie.Need-table-requires
 table-requires c κs = search needs
 
--- src/lib.rt:169:27
 slice-aggregate-descend : tie.Need-slice-aggregate-descend
 slice-aggregate-descend c = search needs
 
--- src/lib.rt:169:36
 array-share-prefix-array : tie.Need-array-share-prefix-array
-array-share-prefix-array c = ?
+array-share-prefix-array c =
+    let o = c .before .before .before .before in
+    entries-inside (o .before .before .entries-of .ensures) (o .if1 .left)
 
--- src/lib.rt:169:36
 slice-aggregate-descend-2 : tie.Need-slice-aggregate-descend-2
-slice-aggregate-descend-2 c = ?
+slice-aggregate-descend-2 c =
+    let o = c .before .before .before .before .before in
+    sym (entries-array (o .before .before .entries-of .ensures) (o .if1 .left) .array .size)
 
--- src/lib.rt:169:9
 descend-requires : tie.Need-descend-requires
-descend-requires c κs = ?
+descend-requires c κs =
+    let o = c .before .before .before .before .before in
+    (c .before .before .table .ensures, entries-rankable (o .before .before .entries-of .ensures) (o .if1 .left))
 
--- src/lib.rt:156:1
 returns-3 : tie.Need-returns-3
-returns-3 c = ?
+returns-3 c =
+    let lent = c .before .before .before .before .before .before in
+    let o = lent .before in
+    is-explained (o .before .before .entries-of .ensures) (o .if1 .left) _ (c .before .descend .result) (lent .if2 .left) (c .before .descend .ensures)
 
 pub explain-spec : {M : Type 1} → statement M
 explain-spec =
