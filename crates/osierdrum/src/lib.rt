@@ -1,7 +1,10 @@
 // The library that the Rust server links: each call as `extern "C"`, thin over the crate that does the work, with its full contract again.
+use explain::Explanation;
+use explain::Level;
 ghost use mathlib.Core.Path.{_≡_};
 ghost use Rattle.perm.specs.Checks.{ToArray, FromArray};
 ghost use Rattle.rank.specs.Place.{Unranked, Ranked, RowsWritten};
+ghost use Rattle.explain.specs.Explain.{Explains};
 ghost use Rattle.osierdrum.specs.Exports.{counted, standing};
 
 // A count, or a refusal with 0.
@@ -74,4 +77,19 @@ pub extern "C" fn osierdrum_rows(n: u64, k: u64, place: u64, m: u64, o: u64, buf
     ensures { λ r. ⌜ RowsWritten n k place m o (now (buf .entry)) r (now (buf .exit)) ⌝ }
 {
     rank::rows(n, k, place, m, o, buf)
+}
+
+// What made it this place: a row for each size from n down to 1, written to the front of `rows`, and the permutation's number of cycles and its place. Refusals
+// 1, 6, 7, 12. The rows are made by value; here they are only copied.
+#[no_mangle]
+pub extern "C" fn osierdrum_explain(s: &[u8], rows: &mut [Level]) -> Explanation
+    ensures { λ r. ⌜ Explains (now (s .entry)) (now (rows .entry)) r (now (rows .exit)) ⌝ }
+{
+    let explained = explain::explain(s, rows.len());
+    let mut i = 0;
+    while i < explained.count {
+        rows[i] = explained.rows[i];
+        i += 1;
+    }
+    explained.answer
 }
