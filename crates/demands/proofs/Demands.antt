@@ -1,11 +1,12 @@
--- The request's demands 2 and 3 as theorems, to be read from top to bottom beside it. Each is a law of a crate below, stated in full here so that nothing has
+-- The request's demands 2 and 3 as theorems, and what document 02, b), adds, to be read from top to bottom beside them. Each is a law of a crate below, stated in full here so that nothing has
 -- to be looked up but the definitions in specs/. What demand 1 asks is met by the proofs of the functions themselves (docs/DEMANDS.md says how).
 -- Assumes nothing.
 use mathlib.Core.Path.{_≡_, _∙_, sym}
 use Prim.Native.Nat.{ℕ, _≤_, _<_, _^_}
+use mathlib.Core.Bool.{false}
 use mathlib.Core.List.{List}
 use lib.Dec.{eqb}
-use lib.ListN.{length}
+use lib.ListN.{length, take}
 use Rattle.stirling.specs.Count.{c, countOf, checkCycles, checkPlace}
 use Rattle.stirling.proofs.Counts.{cycles-passes, cycles-passed, fits}
 use Rattle.perm.specs.Lists.{tally, positions}
@@ -22,6 +23,14 @@ use Rattle.gray.proofs.Cases as Cases
 use Rattle.rank.specs.Place.{Unranked, Ranked}
 use Rattle.rank.specs.declared.Standing.{Standing}
 use Rattle.rank.proofs.RoundTrip.{place-back, permutation-back}
+use Rattle.explain.specs.declared.Level.{Level}
+use Rattle.explain.specs.declared.Explanation.{Explanation}
+use Rattle.explain.specs.Levels.{total}
+use Rattle.explain.specs.Following.{Leads}
+use Rattle.explain.specs.Explain.{Explains}
+use Rattle.explain.proofs.Following.{leads-one}
+use Rattle.explain.proofs.Answered.{adds-up, lead, as-ranked}
+use Rattle.explain.proofs.Cases as Levels
 use Rattle.cursor.specs.Machine.{Machine, Call, Steps, rowOf, refusalOf, turn, answered, IsStep}
 use Rattle.cursor.specs.Walk.{walkRun, plainRun}
 use Rattle.cursor.proofs.Calls as Calls
@@ -106,3 +115,31 @@ cases = Cases.table
 -- the steps among them, and every call on the walk of the empty list
 pub walk-cases : Walks.Table
 walk-cases = Walks.table
+
+-- ---- Document 02, b): what made it this place. Of whatever the call that explains a place answers and writes, where it does not refuse
+
+-- the last column of the first n rows adds up to the place
+pub column : {s : List ℕ} {before after : List Level} {r : Explanation} → Explains s before r after → r .refusal ≡ 0
+    → total (take (length s) after) ≡ r .place
+column = adds-up
+
+-- these rows, followed downward from n and k, lead to the permutation, and any permutation that they lead to is this one
+pub followed : {s : List ℕ} {before after : List Level} {r : Explanation} → Explains s before r after → r .refusal ≡ 0
+    → Leads (length s) (r .k) false (take (length s) after) s
+    × ((t : Row) → Leads (length s) (r .k) false (take (length s) after) t → t ≡ s)
+followed = lead
+
+-- no rows at all lead to two permutations
+pub lead-to-one : (n k : ℕ) (rows : List Level) (t u : Row) → Leads n k false rows t → Leads n k false rows u → t ≡ u
+lead-to-one n k = leads-one n k false
+
+-- k and the place are those that the call for the place gives
+pub same-as-rank : {s : List ℕ} {before after : List Level} {r : Explanation} → Explains s before r after → r .refusal ≡ 0
+    → {q : Standing}
+    → Ranked s q
+    → q ≡ record { refusal = 0; k = r .k; place = r .place }
+same-as-rank = as-ranked
+
+-- examples, with place 38
+pub level-cases : Levels.Table
+level-cases = Levels.table

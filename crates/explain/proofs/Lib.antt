@@ -6,3 +6,5 @@ pub mod Rungs
 pub mod Descending
 pub mod ByValue
 pub mod Writes
+pub mod Answered
+pub mod Cases

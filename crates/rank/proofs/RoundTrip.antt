@@ -28,6 +28,10 @@ stands n k place s h e j q at =
     let there-row : rowAt (S n k) q ≡ s = rw (same-size, same-count) at (at .row) in
     (same-count, complete n k .only q place there below (there-row ∙ e))
 
+-- so a permutation has one standing
+pub one-standing : {s : List ℕ} {j q k place : ℕ} → StandsAt s j q → StandsAt s k place → (j ≡ k) × (q ≡ place)
+one-standing {s} {j} {q} {k} {place} v w = stands (length s) k place s (w .below) (sym (w .row)) j q v
+
 -- the place of the permutation that was written for a place is that place
 pub place-back : {n k place : ℕ} {before after : List ℕ} → Unranked n k place before 0 after
     → (r : Standing)
