@@ -1,6 +1,6 @@
--- The request's demands 2 and 3 as theorems, and what document 02, b), adds, to be read from top to bottom beside them. Each is a law of a crate below, stated in full here so that nothing has
--- to be looked up but the definitions in specs/. What demand 1 asks is met by the proofs of the functions themselves (docs/DEMANDS.md says how).
--- Assumes nothing.
+-- The request's demands 2 and 3 as theorems, and what document 02, b), adds, to be read from top to bottom beside them. Each is a law of a crate below, stated
+-- in full here so that nothing has to be looked up but the definitions in specs/. What demand 1 asks is met by the proofs of the functions themselves
+-- (docs/DEMANDS.md says how). Assumes nothing.
 use mathlib.Core.Path.{_≡_, _∙_, sym}
 use Prim.Native.Nat.{ℕ, _≤_, _<_, _^_}
 use mathlib.Core.Bool.{false}

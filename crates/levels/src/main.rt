@@ -3,12 +3,17 @@
 use explain::Level;
 use libc::STDIN_FILENO;
 
+// A value in base ten.
+fn print_value(value: u8) {
+    print::number(value as u64);
+}
+
 // Values in base ten, spaces between.
 fn print_values(s: &[u8]) {
     if s.len() == 0 {
         return;
     }
-    print::number(s[0] as u64);
+    print_value(s[0]);
     print::bytes(&s[1..]);
 }
 
@@ -28,11 +33,16 @@ fn print_level(row: Level) {
 
 // The first rows of an array.
 fn print_levels(rows: [Level; 20], count: usize) {
-    let mut i = 0;
-    while i < count && i < 20 {
-        if i > 0 {
-            print::text(b"; ");
+    if count == 0 {
+        return;
+    }
+    print_level(rows[0]);
+    let mut i = 1;
+    while i < 20 {
+        if i >= count {
+            return;
         }
+        print::text(b"; ");
         print_level(rows[i]);
         i += 1;
     }
