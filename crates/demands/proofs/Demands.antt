@@ -2,9 +2,9 @@
 -- in full here so that nothing has to be looked up but the definitions in specs/. What demand 1 asks is met by the proofs of the functions themselves
 -- (docs/DEMANDS.md says how). Assumes nothing.
 use mathlib.Core.Path.{_≡_, _∙_, sym}
-use Prim.Native.Nat.{ℕ, _≤_, _<_, _^_}
-use mathlib.Core.Bool.{false}
-use mathlib.Core.List.{List}
+use Prim.Native.Nat.{ℕ, suc, _≤_, _<_, _^_}
+use mathlib.Core.Bool.{Bool, false}
+use mathlib.Core.List.{List, _∷_}
 use lib.Dec.{eqb}
 use lib.ListN.{length, take}
 use Rattle.stirling.specs.Count.{c, countOf, checkCycles, checkPlace}
@@ -12,23 +12,25 @@ use Rattle.stirling.proofs.Counts.{cycles-passes, cycles-passed, fits}
 use Rattle.perm.specs.Lists.{tally, positions}
 use Rattle.perm.specs.Permutation.{IsPermutation, at, distance}
 use Rattle.perm.specs.Cycle.{cycles}
-use Rattle.perm.specs.Array.{IsArray, IsArrayOf, product}
+use Rattle.perm.specs.Array.{IsArray, IsArrayOf, product, position}
 use Rattle.perm.proofs.Arrays.{product-permutation, has-array, one-array, cycles-product}
 use Rattle.perm.proofs.Apart as Apart
-use Rattle.gray.specs.Order.{Row, S}
+use Rattle.gray.specs.Order.{Row, S, letter}
 use Rattle.gray.specs.Listing.{HasCycles, Complete, Neighbours, Closed}
 use Rattle.gray.proofs.Once as Once
 use Rattle.gray.proofs.Neighbours as Neighbours
 use Rattle.gray.proofs.Cases as Cases
+use Rattle.rank.specs.Search.{cyclesOf}
 use Rattle.rank.specs.Place.{Unranked, Ranked}
 use Rattle.rank.specs.declared.Standing.{Standing}
 use Rattle.rank.proofs.RoundTrip.{place-back, permutation-back}
 use Rattle.explain.specs.declared.Level.{Level}
 use Rattle.explain.specs.declared.Explanation.{Explanation}
-use Rattle.explain.specs.Levels.{total}
+use Rattle.explain.specs.Levels.{letterByte, level, blockWith, shorter, levels, total}
 use Rattle.explain.specs.Following.{Leads}
 use Rattle.explain.specs.Explain.{Explains}
 use Rattle.explain.proofs.Following.{leads-one}
+use Rattle.explain.proofs.Unchanged.{NoChoice, no-choice, at-three}
 use Rattle.explain.proofs.Answered.{adds-up, lead, as-ranked}
 use Rattle.explain.proofs.Cases as Levels
 use Rattle.cursor.specs.Machine.{Machine, Call, Steps, rowOf, refusalOf, turn, answered, IsStep}
@@ -139,6 +141,18 @@ pub same-as-rank : {s : List ℕ} {before after : List Level} {r : Explanation} 
     → Ranked s q
     → q ≡ record { refusal = 0; k = r .k; place = r .place }
 same-as-rank = as-ranked
+
+-- (b), and (a) at 1 and 2, give block 0 and 0 before, and the reading passes down unchanged
+pub without-choice : {m k : ℕ} {s : Row} (backward : Bool) → NoChoice (suc m) k → HasCycles (suc m) k s
+    → levels (suc m) k backward s
+    ≡ record { letter = letterByte (letter (suc m) k); backward = backward; block = 0; before = 0 }
+    ∷ levels m (cyclesOf k (blockWith (suc m) k (position (suc m) s))) backward (shorter m s)
+without-choice = no-choice
+
+-- below (a) at 3 it passes down unchanged too
+pub below-three : {s : Row} (backward : Bool) → HasCycles 3 1 s
+    → levels 3 1 backward s ≡ level 3 1 backward (position 3 s) ∷ levels 2 (cyclesOf 1 (blockWith 3 1 (position 3 s))) backward (shorter 2 s)
+below-three = at-three
 
 -- examples, with place 38
 pub level-cases : Levels.Table

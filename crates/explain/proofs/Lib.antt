@@ -6,5 +6,6 @@ pub mod Rungs
 pub mod Descending
 pub mod ByValue
 pub mod Writes
+pub mod Unchanged
 pub mod Answered
 pub mod Cases
