@@ -21,12 +21,13 @@ use Rattle.gray.proofs.Once as Once
 use Rattle.gray.proofs.Neighbours as Neighbours
 use Rattle.gray.proofs.Cases as Cases
 use Rattle.rank.specs.Search.{cyclesOf}
+use Rattle.rank.specs.Descent.{step, blockWith, shorter}
 use Rattle.rank.specs.Place.{Unranked, Ranked}
 use Rattle.rank.specs.declared.Standing.{Standing}
 use Rattle.rank.proofs.RoundTrip.{place-back, permutation-back}
 use Rattle.explain.specs.declared.Level.{Level}
 use Rattle.explain.specs.declared.Explanation.{Explanation}
-use Rattle.explain.specs.Levels.{letterByte, level, blockWith, shorter, levels, total}
+use Rattle.explain.specs.Levels.{letterByte, level, levels, total}
 use Rattle.explain.specs.Following.{Leads}
 use Rattle.explain.specs.Explain.{Explains}
 use Rattle.explain.proofs.Following.{leads-one}
@@ -151,7 +152,7 @@ without-choice = no-choice
 
 -- below (a) at 3 it passes down unchanged too
 pub below-three : {s : Row} (backward : Bool) → HasCycles 3 1 s
-    → levels 3 1 backward s ≡ level 3 1 backward (position 3 s) ∷ levels 2 (cyclesOf 1 (blockWith 3 1 (position 3 s))) backward (shorter 2 s)
+    → levels 3 1 backward s ≡ level 3 (step 3 1 backward (position 3 s)) ∷ levels 2 (cyclesOf 1 (blockWith 3 1 (position 3 s))) backward (shorter 2 s)
 below-three = at-three
 
 -- examples, with place 38

@@ -1,25 +1,28 @@
 -- What is explained by value: a refusal with nothing to write, or the rows of the permutation that was read, in front of rows of zeros. Assumes nothing.
 use mathlib.Core.Path.{_≡_, refl, sym, ap, _∙_}
-use Prim.Native.Nat.{ℕ, _-_, _≤_, _<_}
+use Prim.Native.Nat.{ℕ, _-_, _≤_, _<_, _^_}
+use native.Mathlib.Nat.{lt-trans}
+use native.Mathlib.Omega.{arith}
 use mathlib.Core.Bool.{false}
 use mathlib.Core.List.{List, [], _++_}
-use lib.Dec.{ltb}
 use borrow.Author.Tests.{lt-ltb, le-ltb}
-use lib.ListN.{length, take, replicate}
-use Rattle.stirling.specs.Refusal.{refuse}
+use lib.ListN.{length, take, replicate, length-append, length-replicate}
+use lib.Seq.{take-at}
 use Rattle.stirling.proofs.Refusals.{unless-passes, unless-refuses}
+use Rattle.stirling.proofs.Counts.{fits}
 use Rattle.perm.specs.Permutation.{IsPermutation}
 use Rattle.perm.specs.Cycle.{cycles}
-use Rattle.perm.specs.Array.{product}
-use Rattle.rank.specs.declared.Entries.{Entries}
-use Rattle.rank.specs.Place.{StandsAt, HasEntries}
-use Rattle.rank.proofs.Stands.{permutation-passed, entries-array}
-use Rattle.explain.specs.declared.Level.{Level}
+use Rattle.perm.specs.Checks.{checkPermutation}
+use Rattle.rank.specs.declared.Step.{Step}
+use Rattle.rank.specs.declared.Descent.{Descent}
+use Rattle.rank.specs.Place.{StandsAt}
+use Rattle.rank.specs.Descent.{steps, still, Descends}
+use Rattle.rank.proofs.Stands.{permutation-passed}
 use Rattle.explain.specs.declared.Explained.{Explained}
-use Rattle.explain.specs.declared.Descent.{Descent}
-use Rattle.explain.specs.Levels.{levels, total}
+use Rattle.explain.specs.declared.Summed.{Summed}
+use Rattle.explain.specs.Levels.{lettered, total}
 use Rattle.explain.specs.Explain.{checkExplain, rowsOf, rowsWritten, blank, IsExplained}
-use Rattle.explain.proofs.Levels.{length-levels, placed}
+use Rattle.explain.proofs.Levels.{length-steps, length-levels, placed}
 
 -- on a refusal nothing is written
 pub is-refused : (s : List ℕ) (lent r : ℕ) (e : Explained) → r ≡ checkExplain s lent → (r ≡ 0 → ⊥)
@@ -40,32 +43,42 @@ stands s p =
     let at = placed (length s) (cycles s) false s (record { permutation = p; count = refl }) in
     record { count = refl; below = at .below; row = at .row }
 
--- what was read and not refused is explained, where enough rows are lent
-module _ {s : List ℕ} {r : Entries} (w : HasEntries s r) (passed : r .refusal ≡ 0) where
-  -- the rows of the array are those of the permutation
-  same-rows : levels (length (take (length s) (r .array))) (r .k) false (product (take (length s) (r .array))) ≡ rowsOf s
+-- where the way down is not refused
+module _ {s : List ℕ} {d : Descent} (w : Descends s d) (passed : d .refusal ≡ 0) where
+  checks : checkPermutation s ≡ 0
+  checks = sym (w .refusal) ∙ passed
+
+  -- the rows of its first n steps are those of the permutation
+  same-rows : lettered (length s) (take (length s) (d .steps)) ≡ rowsOf s
   same-rows =
-      let a = entries-array w passed in
-      rw (a .array .size, a .equal, w .count passed)
+      ap (λ (path : List Step). lettered (length s) (take (length s) path)) (w .path passed)
+      ∙ ap (lettered (length s)) (take-at (steps (length s) (cycles s) false s) (replicate (20 - length s) still) (length s) (length-steps (length s) (cycles s) false s))
+
+  -- at most 20, of 20, and what they add up to fits
+  pub fit : (length s ≤ 20) × (length (d .steps) ≡ 20) × (total (lettered (length s) (take (length s) (d .steps))) < 2 ^ 64)
+  fit =
+      let (few, permutation) = permutation-passed s checks in
+      let path = steps (length s) (cycles s) false s in
+      (few,
+      ap length (w .path passed) ∙ omega (arith, length-append path (replicate (20 - length s) still), length-steps (length s) (cycles s) false s, length-replicate (20 - length s) still),
+      rw same-rows (lt-trans (stands s permutation .below) (fits (length s) (cycles s) few)))
 
   -- too few rows lent
   pub is-short : (lent : ℕ) → lent < length s → 12 ≡ checkExplain s lent
-  is-short lent few = rw (sym (w .refusal) ∙ passed, lt-ltb lent (length s) few)
+  is-short lent few = rw (checks, lt-ltb lent (length s) few)
 
-  pub is-explained : (lent : ℕ) (d : Descent) → length s ≤ lent
-      → d ≡ record {
-        place = total (levels (length (take (length s) (r .array))) (r .k) false (product (take (length s) (r .array))));
-        rows = levels (length (take (length s) (r .array))) (r .k) false (product (take (length s) (r .array)))
-        ++ replicate (20 - length (take (length s) (r .array))) blank;
+  -- enough rows lent
+  pub is-explained : (lent : ℕ) (sum : Summed) → length s ≤ lent
+      → sum ≡ record {
+        place = total (lettered (length s) (take (length s) (d .steps)));
+        rows = lettered (length s) (take (length s) (d .steps)) ++ replicate (20 - length s) blank;
       }
-      → IsExplained s lent (record { answer = record { refusal = 0; k = r .k; place = d .place }; count = length s; rows = d .rows })
-  is-explained lent d enough e =
-      let checks = sym (w .refusal) ∙ passed in
+      → IsExplained s lent (record { answer = record { refusal = 0; k = d .k; place = sum .place }; count = length s; rows = sum .rows })
+  is-explained lent sum enough e =
       let none : checkExplain s lent ≡ 0 = rw (checks, le-ltb lent (length s) enough) in
       let all : rowsWritten s lent ≡ rowsOf s = unless-passes (checkExplain s lent) (rowsOf s) [] none in
-      let place-is : d .place ≡ total (rowsOf s) = ap (λ (x : Descent). x .place) e ∙ ap total same-rows in
-      let rows-are : d .rows ≡ rowsOf s ++ replicate (20 - length s) blank =
-      ap (λ (x : Descent). x .rows) e ∙ rw (same-rows, entries-array w passed .array .size) in
+      let place-is : sum .place ≡ total (rowsOf s) = ap (λ (x : Summed). x .place) e ∙ ap total same-rows in
+      let rows-are : sum .rows ≡ rowsOf s ++ replicate (20 - length s) blank = ap (λ (x : Summed). x .rows) e ∙ rw same-rows in
       record {
         answer = record {
           refusal = sym none;

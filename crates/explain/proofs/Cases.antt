@@ -11,7 +11,8 @@ use Rattle.gray.specs.Order.{S, relation, relationA, relationB, relationC, rela
 use Rattle.gray.specs.Blocks.{blocksOfA, blocksOf, blocks}
 use Rattle.rank.specs.Search.{numberIn, before}
 use Rattle.explain.specs.declared.Level.{Level}
-use Rattle.explain.specs.Levels.{levels, total}
+use Rattle.rank.specs.Descent.{steps}
+use Rattle.explain.specs.Levels.{lettered, total}
 use Rattle.explain.specs.Explain.{rowsOf}
 
 -- a row: letter, block, reading, rows before
@@ -55,7 +56,7 @@ pub record Table : Type 0 where
   pub sum-38 : total (rowsOf (3 ∷ 1 ∷ 4 ∷ 2 ∷ 5 ∷ [])) ≡ 38
 
 pub table : Table
-unfolding levels total numberIn before cycles least follow position exchange blocks blocksOf blocksOfA
+unfolding steps lettered total numberIn before cycles least follow position exchange blocks blocksOf blocksOfA
   S relation relationA relationB relationC relationD relationE letter joined rows reading odd rising falling range tally insert extend
 table =
     record {

@@ -19,12 +19,13 @@ use Rattle.gray.specs.Blocks.{blocksOf, blocks}
 use Rattle.gray.specs.Listing.{HasCycles}
 use Rattle.gray.proofs.InPlace.{InPlace, in-place}
 use Rattle.rank.specs.Search.{grown, positionOf, cyclesOf, backwardOf, numberOf}
+use Rattle.rank.specs.Descent.{blockWith, turned, shorter, steps}
 use Rattle.rank.proofs.Grown.{grown-insert, grown-extend}
+use Rattle.rank.proofs.Without as Without
+use Rattle.rank.proofs.Before.{found, left}
 use Rattle.explain.specs.declared.Level.{Level}
-use Rattle.explain.specs.Levels.{letterByte, turned, blockWith, shorter, levels}
+use Rattle.explain.specs.Levels.{letterByte, lettered, levels}
 use Rattle.explain.specs.Following.{Names, made, Leads}
-use Rattle.explain.proofs.Without as Without
-use Rattle.explain.proofs.Before.{found, left}
 
 -- what a block makes of γ has n at the block's position
 made-grown : (n : ℕ) (b : Block) (γ : Row) → length γ ≡ n - 1 → 1 ≤ n → InPlace n b → made n b γ ≡ grown n (positionOf n b) γ
@@ -43,7 +44,7 @@ is-made {m} {k} {s} w =
 
 -- its rows lead to it
 pub leads : (n k : ℕ) (backward : Bool) (s : Row) → HasCycles n k s → Leads n k backward (levels n k backward s) s
-unfolding levels Leads blocks cycles tally range
+unfolding steps lettered Leads blocks cycles tally range
 leads zero k backward [] w = (sym (w .count), refl)
 leads zero k backward (x ∷ s) w = absurd (omega (arith, w .permutation .size))
 leads (suc m) k backward s w =

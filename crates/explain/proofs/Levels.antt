@@ -12,13 +12,20 @@ use Rattle.gray.proofs.Once.{length-S, complete}
 use Rattle.rank.specs.Search.{grown, positionOf, cyclesOf, backwardOf, numberOf, before}
 use Rattle.rank.specs.Ranking.{readingOf}
 use Rattle.rank.proofs.Reading.{none-forward, none-backward}
-use Rattle.explain.specs.Levels.{turned, blockWith, shorter, levels, total}
-use Rattle.explain.proofs.Without.{made}
-use Rattle.explain.proofs.Before.{found, left, below-block, row-from}
+use Rattle.rank.specs.Descent.{blockWith, turned, shorter, steps}
+use Rattle.rank.proofs.Without.{made}
+use Rattle.rank.proofs.Before.{found, left, below-block, row-from}
+use Rattle.explain.specs.Levels.{lettered, levels, total}
 
--- one row for each size
+-- one step for each size
+pub length-steps : (n k : ℕ) (backward : Bool) (s : Row) → length (steps n k backward s) ≡ n
+unfolding steps
+length-steps zero k backward s = refl
+length-steps (suc m) k backward s = ap suc (length-steps m _ _ (shorter m s))
+
+-- and one row
 pub length-levels : (n k : ℕ) (backward : Bool) (s : Row) → length (levels n k backward s) ≡ n
-unfolding levels
+unfolding steps lettered
 length-levels zero k backward s = refl
 length-levels (suc m) k backward s = ap suc (length-levels m _ _ (shorter m s))
 
@@ -60,6 +67,6 @@ more-placed backward {m} {k} {s} w {r} inner =
 
 -- the last column adds up to the place
 pub placed : (n k : ℕ) (backward : Bool) (s : Row) → HasCycles n k s → PlacedAt backward n k s (total (levels n k backward s))
-unfolding levels total
+unfolding steps lettered total
 placed zero k backward s w = none-placed backward k s w
 placed (suc m) k backward s w = more-placed backward w (placed m _ _ (shorter m s) (left w))

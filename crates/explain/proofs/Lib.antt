@@ -1,9 +1,6 @@
-pub mod Without
-pub mod Before
 pub mod Levels
 pub mod Following
-pub mod Rungs
-pub mod Descending
+pub mod Summing
 pub mod ByValue
 pub mod Writes
 pub mod Unchanged

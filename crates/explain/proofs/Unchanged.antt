@@ -16,8 +16,9 @@ use Rattle.gray.specs.Listing.{HasCycles}
 use Rattle.gray.proofs.Indexed.{block}
 use Rattle.gray.proofs.Which.{Which, is-none, is-a, is-b, is-c, is-d, is-e, which}
 use Rattle.rank.specs.Search.{cyclesOf, backwardOf, numberOf, before}
-use Rattle.explain.specs.Levels.{letterByte, level, turned, blockWith, shorter, levels}
-use Rattle.explain.proofs.Before.{found}
+use Rattle.rank.specs.Descent.{step, blockWith, turned, shorter, steps}
+use Rattle.rank.proofs.Before.{found}
+use Rattle.explain.specs.Levels.{letterByte, level, lettered, levels}
 
 -- a size without a choice: (b), or (a) at 1 and 2
 abbrev pub NoChoice : ℕ → ℕ → Type 0
@@ -65,7 +66,7 @@ pub no-choice : {m k : ℕ} {s : Row} (backward : Bool) → NoChoice (suc m) k �
     → levels (suc m) k backward s
     ≡ record { letter = letterByte (letter (suc m) k); backward = backward; block = 0; before = 0 }
     ∷ levels m (cyclesOf k (blockWith (suc m) k (position (suc m) s))) backward (shorter m s)
-unfolding levels
+unfolding steps lettered
 no-choice {m} {k} {s} backward choice w =
     let n = suc m in
     let i = position n s in
@@ -86,8 +87,8 @@ forward-at-3 (suc (suc j)) h = absurd (omega arith)
 
 -- so the reading passes down unchanged there too
 pub at-three : {s : Row} (backward : Bool) → HasCycles 3 1 s
-    → levels 3 1 backward s ≡ level 3 1 backward (position 3 s) ∷ levels 2 (cyclesOf 1 (blockWith 3 1 (position 3 s))) backward (shorter 2 s)
-unfolding levels
+    → levels 3 1 backward s ≡ level 3 (step 3 1 backward (position 3 s)) ∷ levels 2 (cyclesOf 1 (blockWith 3 1 (position 3 s))) backward (shorter 2 s)
+unfolding steps lettered
 at-three {s} backward w =
     let forward = forward-at-3 (numberOf 3 1 (position 3 s)) (found w .0) in
-    λ t. level 3 1 backward (position 3 s) ∷ levels 2 (cyclesOf 1 (blockWith 3 1 (position 3 s))) (turned backward (forward t)) (shorter 2 s)
+    λ t. level 3 (step 3 1 backward (position 3 s)) ∷ levels 2 (cyclesOf 1 (blockWith 3 1 (position 3 s))) (turned backward (forward t)) (shorter 2 s)

@@ -12,8 +12,9 @@ use Rattle.gray.specs.declared.Letter.{Letter}
 use Rattle.gray.specs.Order.{Row}
 use Rattle.gray.specs.Blocks.{blocksOf}
 use Rattle.rank.specs.Search.{cyclesOf, backwardOf}
+use Rattle.rank.specs.Descent.{turned}
 use Rattle.explain.specs.declared.Level.{Level}
-use Rattle.explain.specs.Levels.{letterByte, turned}
+use Rattle.explain.specs.Levels.{letterByte}
 
 -- a row names block b for the list of n and k: it is the block with the row's number, in written order, of the relation with the row's letter; and the list is read as
 -- the row says

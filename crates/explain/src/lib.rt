@@ -1,16 +1,13 @@
 // What made it this place: for each size from n down to 1, the relation that gives the list, the block that the permutation stands in, how the list is read, and
-// how many of its rows stand before the block. By value; crate `osierdrum` writes the rows to the caller's.
+// how many of its rows stand before the block. The steps down are found by crate `rank`; here they get their letters and are added up. All by value: crate
+// `osierdrum` writes the rows to the caller's.
 use gray::Letter;
+use rank::Step;
 ghost use mathlib.Core.Path.{_≡_};
-ghost use Prim.Native.Nat.{_-_};
-ghost use mathlib.Core.Bool.{false};
+ghost use Prim.Native.Nat.{_-_, _≤_, _<_, _^_};
 ghost use mathlib.Core.List.{_++_};
-ghost use lib.ListN.{length, replicate};
-ghost use Rattle.stirling.specs.Count.{IsTable};
-ghost use Rattle.perm.specs.Array.{product};
-ghost use Rattle.rank.specs.Search.{cyclesOf, backwardOf};
-ghost use Rattle.rank.specs.Ranking.{Occurs, Rankable};
-ghost use Rattle.explain.specs.Levels.{letterByte, level, turned, blockWith, levels, total};
+ghost use lib.ListN.{length, take, replicate};
+ghost use Rattle.explain.specs.Levels.{letterByte, level, lettered, total};
 ghost use Rattle.explain.specs.Explain.{blank, IsExplained};
 
 // The refusal of check 12.
@@ -49,15 +46,8 @@ const BLANK: Level = Level {
     before: 0,
 };
 
-// The row of one size, and what it hands down: the cycles and the reading of the list one size below.
-struct Rung {
-    level: Level,
-    cycles: u64,
-    backward: bool,
-}
-
 // The rows of a permutation in front of rows of zeros, and what their last column adds up to.
-struct Descent {
+struct Summed {
     place: u64,
     rows: [Level; 20],
 }
@@ -76,58 +66,36 @@ fn letter_byte(letter: Letter) -> u8
     }
 }
 
-// The row of S(n,k), read forward or backward, for a permutation that has value n at position i. Read backward, the rows after the part come before it.
-fn rung_at(counts: &[u64], n: u64, k: u64, backward: bool, i: u64) -> Rung
-    requires { ⌜ IsTable (now counts) ⌝ }
-    requires { ⌜ Occurs n k i ⌝ }
-    ensures { λ r. ⌜ r ≡ record {
-        level = level n k backward i;
-        cycles = cyclesOf k (blockWith n k i);
-        backward = turned backward (backwardOf (blockWith n k i));
-    } ⌝ }
+// The row of a step in the list of size n.
+fn level_of(n: u64, step: Step) -> Level
+    ensures { λ r. ⌜ r ≡ level n step ⌝ }
 {
-    let part = rank::part_with(counts, n, k, i);
-    let mut before = part.start;
-    if backward {
-        before = stirling::entry(counts, n, k) - part.start - stirling::entry(counts, n - 1, part.cycles);
-    }
-    Rung {
-        level: Level {
-            letter: letter_byte(gray::letter_of(n, k)),
-            backward,
-            block: part.block,
-            before,
-        },
-        cycles: part.cycles,
-        backward: backward != part.backward,
+    Level {
+        letter: letter_byte(gray::letter_of(n, step.cycles)),
+        backward: step.backward,
+        block: step.block,
+        before: step.before,
     }
 }
 
-// The rows of the permutation of a transposition array of n entries, from S(n,k) down.
-fn descend(counts: &[u64], a: &[u8], k: u64) -> Descent
-    requires { ⌜ IsTable (now counts) ⌝ }
-    requires { ⌜ Rankable (now a) k ⌝ }
+// The rows of the first n steps, and their sum.
+fn sum_up(n: usize, steps: [Step; 20]) -> Summed
+    requires { ⌜ (n ≤ 20) × (length steps ≡ 20) × (total (lettered n (take n steps)) < 2 ^ 64) ⌝ }
     ensures { λ r. ⌜ r ≡ record {
-        place = total (levels (length (now (a .entry))) k false (product (now (a .entry))));
-        rows = levels (length (now (a .entry))) k false (product (now (a .entry))) ++ replicate (20 - length (now (a .entry))) blank;
+        place = total (lettered n (take n steps));
+        rows = lettered n (take n steps) ++ replicate (20 - n) blank;
     } ⌝ }
 {
-    let n = a.len();
     let mut rows = [BLANK; 20];
     let mut place = 0;
-    let mut cycles = k;
-    let mut backward = false;
-    let mut m = n;
-    while m > 0 {
-        let rung = rung_at(counts, m as u64, cycles, backward, a[m - 1] as u64);
-        let level = rung.level;
-        rows[n - m] = level;
-        place += level.before;
-        cycles = rung.cycles;
-        backward = rung.backward;
-        m -= 1;
+    let mut i = 0;
+    while i < n {
+        let row = level_of((n - i) as u64, steps[i]);
+        rows[i] = row;
+        place += row.before;
+        i += 1;
     }
-    Descent {
+    Summed {
         place,
         rows,
     }
@@ -156,23 +124,22 @@ fn unexplained(refusal: u8) -> Explained
 pub fn explain(s: &[u8], lent: usize) -> Explained
     ensures { λ r. ⌜ IsExplained (now (s .entry)) lent r ⌝ }
 {
-    let entries = rank::entries_of(s);
-    if entries.refusal != 0 {
-        return unexplained(entries.refusal);
+    let descent = rank::descend(s);
+    if descent.refusal != 0 {
+        return unexplained(descent.refusal);
     }
     let n = s.len();
     if lent < n {
         return unexplained(REFUSED_LEVELS);
     }
-    let array = entries.array;
-    let counts = stirling::table();
-    let descent = descend(&counts, &array[..n], entries.k);
-    let rows = descent.rows;
+    let steps = descent.steps;
+    let sum = sum_up(n, steps);
+    let rows = sum.rows;
     Explained {
         answer: Explanation {
             refusal: 0,
-            k: entries.k,
-            place: descent.place,
+            k: descent.k,
+            place: sum.place,
         },
         count: n,
         rows,

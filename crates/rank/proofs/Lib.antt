@@ -6,6 +6,10 @@ pub mod Extension
 pub mod Parts
 pub mod Ranking
 pub mod Stands
+pub mod Without
+pub mod Before
+pub mod Rungs
+pub mod Descending
 pub mod Reading
 pub mod RowBytes
 pub mod RowChecks

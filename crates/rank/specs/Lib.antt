@@ -1,3 +1,4 @@
 pub mod Search
 pub mod Ranking
 pub mod Place
+pub mod Descent

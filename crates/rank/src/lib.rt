@@ -10,11 +10,13 @@ ghost use lib.ListN.{length, replicate, take, drop};
 ghost use Rattle.stirling.specs.Count.{c, IsTable, checkCycles};
 ghost use Rattle.perm.specs.Lists.{tally, positions};
 ghost use Rattle.perm.specs.Permutation.{at};
+ghost use Rattle.perm.specs.Array.{product};
 ghost use Rattle.gray.specs.Order.{S};
 ghost use Rattle.gray.specs.Listing.{rowAt};
 ghost use Rattle.rank.specs.Place.{Unranked, Ranked, HasEntries, checkRowCount, rowsFrom, RowsWritten};
-ghost use Rattle.rank.specs.Search.{grown, sourceOf, ExtendsAt, sourceRow, ComesFrom, Readable};
+ghost use Rattle.rank.specs.Search.{grown, cyclesOf, backwardOf, sourceOf, ExtendsAt, sourceRow, ComesFrom, Readable};
 ghost use Rattle.rank.specs.Ranking.{Occurs, IsPart, Rankable, PlaceIn};
+ghost use Rattle.rank.specs.Descent.{step, blockWith, turned, steps, still, Descends};
 
 // The refusal of check 4.
 pub const REFUSED_ROWS: u8 = 4;
@@ -41,18 +43,49 @@ struct Source {
 
 // The part of S(n,k) that one block makes: the block's number from 0 in written order, how many rows stand before it, and the list S(n-1,cycles) that it
 // is made from, read forward or backward.
-pub struct Part {
-    pub block: u64,
-    pub start: u64,
-    pub cycles: u64,
-    pub backward: bool,
+struct Part {
+    block: u64,
+    start: u64,
+    cycles: u64,
+    backward: bool,
 }
 
 // The transposition array of a permutation, followed by zeros, and its number of cycles. Zeros on a refusal.
-pub struct Entries {
+struct Entries {
+    refusal: u8,
+    k: u64,
+    array: [u8; 20],
+}
+
+// Where a permutation stands in the list of one size, S(m,cycles), read forward or backward: the number of its block, from 0 in written order, and how many rows
+// of the list stand before the block in that reading.
+pub struct Step {
+    pub cycles: u64,
+    pub backward: bool,
+    pub block: u64,
+    pub before: u64,
+}
+
+// A step of zeros.
+const STILL: Step = Step {
+    cycles: 0,
+    backward: false,
+    block: 0,
+    before: 0,
+};
+
+// A step, and what it hands down: the cycles and the reading of the list one size below.
+struct Rung {
+    step: Step,
+    cycles: u64,
+    backward: bool,
+}
+
+// The steps of a permutation from n down to 1, in front of steps of zeros, and its number of cycles. Zeros on a refusal.
+pub struct Descent {
     pub refusal: u8,
     pub k: u64,
-    pub array: [u8; 20],
+    pub steps: [Step; 20],
 }
 
 // What a block of S(n,k) makes its row at a place from.
@@ -185,8 +218,7 @@ pub fn unrank(n: u64, k: u64, place: u64, out: &mut [u8]) -> u8
 }
 
 // The part of S(n,k) that has value n at position i: the blocks are passed, one after the other, and their rows counted, up to the one that puts n there.
-// It is `pub` for the crates above: no call of document 01, so what it asks is asked by `requires`.
-pub fn part_with(counts: &[u64], n: u64, k: u64, i: u64) -> Part
+fn part_with(counts: &[u64], n: u64, k: u64, i: u64) -> Part
     requires { ⌜ IsTable (now counts) ⌝ }
     requires { ⌜ Occurs n k i ⌝ }
     ensures { λ r. ⌜ IsPart n k i r ⌝ }
@@ -290,7 +322,7 @@ fn nowhere(refusal: u8) -> Standing
 
 // The transposition array of a permutation of n values, where n is the slice's length, and its number of cycles. Refusals in document 01's order: check 1,
 // and then checks 6 and 7 as the array is made.
-pub fn entries_of(s: &[u8]) -> Entries
+fn entries_of(s: &[u8]) -> Entries
     ensures { λ r. ⌜ HasEntries (now (s .entry)) r ⌝ }
 {
     let n = s.len();
@@ -327,6 +359,78 @@ pub fn rank(s: &[u8]) -> Standing
         refusal: 0,
         k: entries.k,
         place,
+    }
+}
+
+// The step of S(n,k), read forward or backward, for a permutation that has value n at position i. Read backward, the rows after its part come before it.
+fn rung_at(counts: &[u64], n: u64, k: u64, backward: bool, i: u64) -> Rung
+    requires { ⌜ IsTable (now counts) ⌝ }
+    requires { ⌜ Occurs n k i ⌝ }
+    ensures { λ r. ⌜ r ≡ record {
+        step = step n k backward i;
+        cycles = cyclesOf k (blockWith n k i);
+        backward = turned backward (backwardOf (blockWith n k i));
+    } ⌝ }
+{
+    let part = part_with(counts, n, k, i);
+    let mut before = part.start;
+    if backward {
+        before = stirling::entry(counts, n, k) - part.start - stirling::entry(counts, n - 1, part.cycles);
+    }
+    Rung {
+        step: Step {
+            cycles: k,
+            backward,
+            block: part.block,
+            before,
+        },
+        cycles: part.cycles,
+        backward: backward != part.backward,
+    }
+}
+
+// The steps of the permutation of a transposition array of n entries, from S(n,k) down.
+fn descend_from(counts: &[u64], a: &[u8], k: u64) -> [Step; 20]
+    requires { ⌜ IsTable (now counts) ⌝ }
+    requires { ⌜ Rankable (now a) k ⌝ }
+    ensures { λ r. ⌜ r ≡ steps (length (now (a .entry))) k false (product (now (a .entry))) ++ replicate (20 - length (now (a .entry))) still ⌝ }
+{
+    let n = a.len();
+    let mut steps = [STILL; 20];
+    let mut cycles = k;
+    let mut backward = false;
+    let mut m = n;
+    while m > 0 {
+        let rung = rung_at(counts, m as u64, cycles, backward, a[m - 1] as u64);
+        let step = rung.step;
+        steps[n - m] = step;
+        cycles = rung.cycles;
+        backward = rung.backward;
+        m -= 1;
+    }
+    steps
+}
+
+// The steps of a permutation down through the lists, and its number of cycles. Refusals 1, 6, 7, as its array is made.
+pub fn descend(s: &[u8]) -> Descent
+    ensures { λ r. ⌜ Descends (now (s .entry)) r ⌝ }
+{
+    let entries = entries_of(s);
+    if entries.refusal != 0 {
+        return Descent {
+            refusal: entries.refusal,
+            k: 0,
+            steps: [STILL; 20],
+        };
+    }
+    let n = s.len();
+    let array = entries.array;
+    let counts = stirling::table();
+    let steps = descend_from(&counts, &array[..n], entries.k);
+    Descent {
+        refusal: entries.refusal,
+        k: entries.k,
+        steps,
     }
 }
 

@@ -11,10 +11,10 @@ use Rattle.perm.proofs.Split.{Split, extended, inserted, split}
 use Rattle.perm.proofs.Cycles.{cycles-extend, cycles-insert}
 use Rattle.perm.proofs.ArrayOf.{without-extend, without-insert}
 use Rattle.gray.specs.Order.{Row}
 use Rattle.rank.specs.Search.{grown}
 use Rattle.rank.specs.Ranking.{cyclesLeft}
 use Rattle.rank.proofs.Grown.{grown-insert, grown-extend}
-use Rattle.explain.specs.Levels.{shorter}
+use Rattle.rank.specs.Descent.{shorter}
 
 -- a permutation s of m + 1 is made of `shorter m s`
 pub record Made (m : ℕ) (s : Row) : Type 0 where

@@ -1,4 +1,4 @@
--- `explain::rung_at` meets its contract: the part that the search finds has the block's number and the rows before it read forward; read backward, the rows after it
+-- `rank::rung_at` meets its contract: the part that the search finds has the block's number and the rows before it read forward; read backward, the rows after it
 -- come first. Assumes nothing.
 use borrow.Author.Needs.{needs}
 use mathlib.Core.Path.{_≡_, refl, sym, ap, _∙_}
@@ -7,12 +7,10 @@ use Prim.Native.Nat.{ℕ, _-_, _≤_}
 use mathlib.Core.Bool.{Bool}
 use native.Mathlib.Omega.{arith}
 use Rattle.stirling.specs.Count.{c as count}
-use Rattle.gray.specs.declared.Letter.{Letter}
 use Rattle.rank.specs.Search.{before}
-use Rattle.explain.specs.Levels.{letterByte}
-use Rattle.explain.proofs.Rungs.{rest-before, rung}
-use Rattle.explain.proofs.rung_at.Statement.{statement}
-use Rattle.explain.proofs.rung_at.Tie as tie
+use Rattle.rank.proofs.Rungs.{rest-before, rung}
+use Rattle.rank.proofs.rung_at.Statement.{statement}
+use Rattle.rank.proofs.rung_at.Tie as tie
 
 part-with-requires : tie.Need-part-with-requires
 part-with-requires c κs = search needs
@@ -55,12 +53,6 @@ sub-before-2 c =
     let p = c .before .before .before .before in
     rest-before (p .part-with .ensures) (some p) (all (c .before .before)) (size c) .1
 
-letter-of-requires : tie.Need-letter-of-requires
-letter-of-requires c κs = search needs
-
-letter-byte-requires : tie.Need-letter-byte-requires
-letter-byte-requires c κs = search needs
-
 -- after either branch: the rows before the block in the reading at hand
 counted : (c : tie.Joined1) → c .if1 .before ≡ before (given (c .before) .args .n) (given (c .before) .args .k) (given (c .before) .args .backward) (c .before .part-with .result .block)
 counted c =
@@ -76,10 +68,8 @@ counted c =
 
 returns : tie.Need-returns
 returns c =
-    let j = c .before .before .before in
-    rung (j .before .part-with .ensures) (given (j .before) .args .backward)
-    (c .before .letter-byte .ensures ∙ ap letterByte (c .before .before .letter-of .ensures))
-    (counted j)
+    let j = c .before in
+    rung (j .before .part-with .ensures) (given (j .before) .args .backward) (counted j)
 
 pub rung-at-spec : {M : Type 1} → statement M
 rung-at-spec =
@@ -91,6 +81,4 @@ rung-at-spec =
     sub-entry
     entry-requires-2
     sub-before-2
-    letter-of-requires
-    letter-byte-requires
     returns)

@@ -1,18 +1,17 @@
--- The row of one size from the part that the search finds. Assumes nothing.
+-- The step of one size from the part that the search finds. Assumes nothing.
 use mathlib.Core.Path.{_≡_, refl, ap, _∙_}
 use Prim.Native.Nat.{ℕ, _+_, _-_, _≤_}
 use native.Mathlib.Omega.{arith}
 use mathlib.Core.Bool.{Bool, true, false, not, Bool·beq}
 use Rattle.stirling.specs.Count.{c}
-use Rattle.gray.specs.Order.{letter}
 use Rattle.gray.specs.Blocks.{blocks}
 use Rattle.gray.proofs.Indexed.{block}
 use Rattle.rank.specs.declared.Part.{Part}
 use Rattle.rank.specs.Search.{cyclesOf, backwardOf, numberOf, before}
 use Rattle.rank.specs.Ranking.{IsPart}
-use Rattle.explain.specs.declared.Rung.{Rung}
-use Rattle.explain.specs.Levels.{letterByte, level, turned, blockWith}
-use Rattle.explain.proofs.Before.{all-rows}
+use Rattle.rank.specs.declared.Rung.{Rung}
+use Rattle.rank.specs.Descent.{step, turned, blockWith}
+use Rattle.rank.proofs.Before.{all-rows}
 
 -- a reading is turned where the two differ
 differs : (backward odd : Bool) → not (Bool·beq backward odd) ≡ turned backward odd
@@ -31,27 +30,27 @@ module _ {n k i : ℕ} {p : Part} (part : IsPart n k i p) where
       let first = part .first in
       omega arith
 
-  -- the row, with what it hands down
-  pub rung : (backward : Bool) {byte rows : ℕ} → byte ≡ letterByte (letter n k) → rows ≡ before n k backward (p .block)
+  -- the step, with what it hands down
+  pub rung : (backward : Bool) {rows : ℕ} → rows ≡ before n k backward (p .block)
       → _≡_ {A = Rung}
       (record {
-        level = record { letter = byte; backward = backward; block = p .block; before = rows };
+        step = record { cycles = k; backward = backward; block = p .block; before = rows };
         cycles = p .cycles;
         backward = not (Bool·beq backward (p .backward));
       })
       (record {
-        level = level n k backward i;
+        step = step n k backward i;
         cycles = cyclesOf k (blockWith n k i);
         backward = turned backward (backwardOf (blockWith n k i));
       })
-  rung backward {byte} {rows} letter-is rows-are =
+  rung backward {rows} rows-are =
       let rows-of : rows ≡ before n k backward (numberOf n k i) = rows-are ∙ ap (before n k backward) (part .number) in
       let cycles-of : p .cycles ≡ cyclesOf k (blockWith n k i) = part .cycles ∙ ap (λ (j : ℕ). cyclesOf k (block (blocks n k) j)) (part .number) in
       let reading-of : not (Bool·beq backward (p .backward)) ≡ turned backward (backwardOf (blockWith n k i)) =
       differs backward (p .backward)
       ∙ ap (turned backward) (part .backward ∙ ap (λ (j : ℕ). backwardOf (block (blocks n k) j)) (part .number)) in
       λ t. record {
-        level = record { letter = letter-is t; backward = backward; block = part .number t; before = rows-of t };
+        step = record { cycles = k; backward = backward; block = part .number t; before = rows-of t };
         cycles = cycles-of t;
         backward = reading-of t;
       }

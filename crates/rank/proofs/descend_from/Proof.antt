@@ -1,19 +1,18 @@
--- `explain::descend` meets its contract. The loop's invariant: the sizes above m are done. The measure is m. Assumes nothing.
+-- `rank::descend_from` meets its contract. The loop's invariant: the sizes above m are done. The measure is m. Assumes nothing.
 use borrow.Author.Needs.{needs}
-use mathlib.Core.Path.{_≡_, ap}
+use mathlib.Core.Path.{_≡_}
 use Prim.Native.Nat.{_-_, _<_}
 use native.Mathlib.Omega.{arith}
 use lib.ListN.{length}
-use Rattle.explain.specs.declared.Rung.{Rung}
-use Rattle.explain.proofs.Descending.{Down, none-done, occurs-at, sum-room, next-done, all-done, all-summed}
-use Rattle.explain.proofs.descend.Statement.{statement}
-use Rattle.explain.proofs.descend.Tie as tie
+use Rattle.rank.proofs.Descending.{Down, none-done, occurs-at, next-done, all-done}
+use Rattle.rank.proofs.descend_from.Statement.{statement}
+use Rattle.rank.proofs.descend_from.Tie as tie
 
 abbrev Inv-loop : tie.InvT-loop
-Inv-loop counts a k n rows₀ place₀ cycles₀ backward₀ m₀ rows place cycles backward m = Down a k rows place cycles backward m
+Inv-loop counts a k n steps₀ cycles₀ backward₀ m₀ steps cycles backward m = Down a k steps cycles backward m
 
 abbrev μ-loop : tie.MeasureT-loop
-μ-loop counts a k n rows₀ place₀ cycles₀ backward₀ m₀ rows place cycles backward m = m
+μ-loop counts a k n steps₀ cycles₀ backward₀ m₀ steps cycles backward m = m
 
 loop-holds : tie.Need-loop-holds Inv-loop μ-loop
 loop-holds c = let s = c .before .before in none-done (s .args .a .now) (s .args .k) (s .pre .1)
@@ -33,28 +32,20 @@ rung-at-requires c κs =
     let s = l .before .before .before in
     (s .pre .0, occurs-at (s .args .a .now) (l .loop .inv .inside) (l .loop .inv .rankable) (c .before .loop-test .taken))
 
-sub-rows : tie.Need-sub-rows Inv-loop μ-loop
-sub-rows c = c .before .before .before .before .loop .inv .inside
+sub-steps : tie.Need-sub-steps Inv-loop μ-loop
+sub-steps c = c .before .before .before .before .loop .inv .inside
 
--- at most 20 rows
-few : (c : tie.After-level Inv-loop μ-loop) → length (c .before .before .before .before .before .before .before .args .a .now) - c .before .before .before .before .loop .m < 20
+-- at most 20 steps
+few : (c : tie.After-step Inv-loop μ-loop) → length (c .before .before .before .before .before .before .before .args .a .now) - c .before .before .before .before .loop .m < 20
 few c =
     let i = c .before .before .before in
     omega (arith, i .loop-test .taken, i .before .before .before .before .pre .1 .small)
 
-mul-rows : tie.Need-mul-rows Inv-loop μ-loop
-mul-rows c = record { fits = omega (arith, few c) }
+mul-steps : tie.Need-mul-steps Inv-loop μ-loop
+mul-steps c = record { fits = omega (arith, few c) }
 
-array-set-from-rows : tie.Need-array-set-from-rows Inv-loop μ-loop
-array-set-from-rows c = few c
-
-add-place : tie.Need-add-place Inv-loop μ-loop
-add-place c =
-    let r = c .before .before in
-    let i = r .before .before in
-    let l = i .before in
-    let rows-before = ap (λ (x : Rung). x .level .before) (r .rung-at .ensures) in
-    record { fits = omega (arith, rows-before, sum-room (l .loop .m) (i .loop-test .taken) (l .before .before .before .pre .1) (l .loop .inv)) }
+array-set-from-steps : tie.Need-array-set-from-steps Inv-loop μ-loop
+array-set-from-steps c = few c
 
 sub-m : tie.Need-sub-m Inv-loop μ-loop
 sub-m c = search needs
@@ -64,7 +55,7 @@ loop-less c = search needs
 
 loop-again : tie.Need-loop-again Inv-loop μ-loop
 loop-again c =
-    let r = c .before .before in
+    let r = c .before in
     let i = r .before .before in
     let l = i .before in
     rw (r .rung-at .ensures) (next-done (l .loop .m) (i .loop-test .taken) (l .loop .inv))
@@ -73,11 +64,10 @@ returns : tie.Need-returns Inv-loop μ-loop
 returns c =
     let l = c .before .loop in
     let none : l .m ≡ 0 = omega (arith, c .loop-test .left) in
-    let all = rw none at (l .inv) in
-    λ t. record { place = all-summed all t; rows = all-done all t }
+    all-done (rw none at (l .inv))
 
-pub descend-spec : {M : Type 1} → statement M
-descend-spec =
+pub descend-from-spec : {M : Type 1} → statement M
+descend-from-spec =
     tie.close
     (tie.spec
     Inv-loop
@@ -87,10 +77,9 @@ descend-spec =
     shared-slice-read-rung-at
     cast-rung-at
     rung-at-requires
-    sub-rows
-    mul-rows
-    array-set-from-rows
-    add-place
+    sub-steps
+    mul-steps
+    array-set-from-steps
     sub-m
     loop-less
     loop-again
