@@ -58,10 +58,11 @@ module _ {s : List ℕ} {d : Descent} (w : Descends s d) (passed : d .refusal �
   pub fit : (length s ≤ 20) × (length (d .steps) ≡ 20) × (total (lettered (length s) (take (length s) (d .steps))) < 2 ^ 64)
   fit =
       let (few, permutation) = permutation-passed s checks in
-      let path = steps (length s) (cycles s) false s in
-      (few,
-      ap length (w .path passed) ∙ omega (arith, length-append path (replicate (20 - length s) still), length-steps (length s) (cycles s) false s, length-replicate (20 - length s) still),
-      rw same-rows (lt-trans (stands s permutation .below) (fits (length s) (cycles s) few)))
+      let path = steps (length s) (cycles s) false s in (
+        few,
+        ap length (w .path passed) ∙ omega (arith, length-append path (replicate (20 - length s) still), length-steps (length s) (cycles s) false s, length-replicate (20 - length s) still),
+        rw same-rows (lt-trans (stands s permutation .below) (fits (length s) (cycles s) few)),
+      )
 
   -- too few rows lent
   pub is-short : (lent : ℕ) → lent < length s → 12 ≡ checkExplain s lent

@@ -57,7 +57,7 @@ pub record Table : Type 0 where
 
 pub table : Table
 unfolding steps lettered total numberIn before cycles least follow position exchange blocks blocksOf blocksOfA
-  S relation relationA relationB relationC relationD relationE letter joined rows reading odd rising falling range tally insert extend
+    S relation relationA relationB relationC relationD relationE letter joined rows reading odd rising falling range tally insert extend
 table =
     record {
       none = refl;

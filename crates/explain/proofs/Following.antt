@@ -47,11 +47,13 @@ pub leads : (n k : ℕ) (backward : Bool) (s : Row) → HasCycles n k s → Lead
 unfolding steps lettered Leads blocks cycles tally range
 leads zero k backward [] w = (sym (w .count), refl)
 leads zero k backward (x ∷ s) w = absurd (omega (arith, w .permutation .size))
-leads (suc m) k backward s w =
-    (blockWith (suc m) k (position (suc m) s), shorter m s,
-    record { relation = letter (suc m) k; letter = refl; inside = found w .0; block = refl; reading = refl },
-    leads m _ _ (shorter m s) (left w),
-    is-made w)
+leads (suc m) k backward s w = (
+  blockWith (suc m) k (position (suc m) s),
+  shorter m s,
+  record { relation = letter (suc m) k; letter = refl; inside = found w .0; block = refl; reading = refl },
+  leads m _ _ (shorter m s) (left w),
+  is-made w,
+)
 
 -- the relation that a byte names
 named : ℕ → Letter

@@ -89,8 +89,9 @@ module _ {n : ℕ} {path : List Step} {rows : List Level} {place i : ℕ} (u : U
   -- the sum stays within that of all
   pub within : place + new .before ≤ total (lettered n (take n path))
   within =
-      omega
-      (arith,
-      one-more .sum,
-      total-take n (i + 1) (take n path),
-      ap (λ (l : List Step). total (lettered n l)) (take-take (i + 1) n path (omega arith)))
+      omega (
+        arith,
+        one-more .sum,
+        total-take n (i + 1) (take n path),
+        ap (λ (l : List Step). total (lettered n l)) (take-take (i + 1) n path (omega arith)),
+      )

@@ -25,11 +25,12 @@ module _ {s : List ℕ} {lent : ℕ} {e : Explained} (is : IsExplained s lent e)
   served z =
       let none : checkExplain s lent ≡ 0 = sym (is .answer .refusal) ∙ z in
       let (checks, enough) = then-passed (checkPermutation s) (refuse (ltb lent (length s)) 12) none in
-      let all = unless-passes (checkExplain s lent) (rowsOf s) [] none in
-      (is .count ∙ ap length all ∙ length-levels (length s) (cycles s) false s,
-      all,
-      permutation-passed s checks .0,
-      ltb-false lent (length s) (refuse-passed (ltb lent (length s)) 11 enough))
+      let all = unless-passes (checkExplain s lent) (rowsOf s) [] none in (
+        is .count ∙ ap length all ∙ length-levels (length s) (cycles s) false s,
+        all,
+        permutation-passed s checks .0,
+        ltb-false lent (length s) (refuse-passed (ltb lent (length s)) 11 enough),
+      )
 
   -- refused: none
   left-alone : (e .answer .refusal ≡ 0 → ⊥) → e .count ≡ 0

@@ -82,8 +82,8 @@ fn level_of(n: u64, step: Step) -> Level
 fn sum_up(n: usize, steps: [Step; 20]) -> Summed
     requires { ⌜ (n ≤ 20) × (length steps ≡ 20) × (total (lettered n (take n steps)) < 2 ^ 64) ⌝ }
     ensures { λ r. ⌜ r ≡ record {
-        place = total (lettered n (take n steps));
-        rows = lettered n (take n steps) ++ replicate (20 - n) blank;
+      place = total (lettered n (take n steps));
+      rows = lettered n (take n steps) ++ replicate (20 - n) blank;
     } ⌝ }
 {
     let mut rows = [BLANK; 20];
@@ -95,18 +95,15 @@ fn sum_up(n: usize, steps: [Step; 20]) -> Summed
         place += row.before;
         i += 1;
     }
-    Summed {
-        place,
-        rows,
-    }
+    Summed { place, rows }
 }
 
 // A refusal, with nothing to write.
 fn unexplained(refusal: u8) -> Explained
     ensures { λ r. ⌜ r ≡ record {
-        answer = record { refusal = refusal; k = 0; place = 0 };
-        count = 0;
-        rows = replicate 20 blank;
+      answer = record { refusal = refusal; k = 0; place = 0 };
+      count = 0;
+      rows = replicate 20 blank;
     } ⌝ }
 {
     Explained {

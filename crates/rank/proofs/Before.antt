@@ -58,15 +58,15 @@ within n L M (b ∷ bs) r h =
       is = sym (List·getD-append first rest [] r l);
     })
     (λ t.
-      let l = ltb-false r (length first) t in
-      let w = within n L M bs (r - length first) (omega (arith, h, length-append first rest)) in
-      record {
-        number = suc (w .number);
-        inside = omega (arith, w .inside);
-        place = w .place;
-        below = w .below;
-        is = w .is ∙ behind first rest r l;
-      })
+    let l = ltb-false r (length first) t in
+    let w = within n L M bs (r - length first) (omega (arith, h, length-append first rest)) in
+    record {
+      number = suc (w .number);
+      inside = omega (arith, w .inside);
+      place = w .place;
+      below = w .below;
+      is = w .is ∙ behind first rest r l;
+    })
 
 -- where some block puts n at position i, the first that does so is found by `numberIn`
 numbered : (n i : ℕ) (bs : List Block) (j : ℕ) → j < length bs → positionOf n (block bs j) ≡ i

@@ -367,15 +367,17 @@ fn rung_at(counts: &[u64], n: u64, k: u64, backward: bool, i: u64) -> Rung
     requires { ⌜ IsTable (now counts) ⌝ }
     requires { ⌜ Occurs n k i ⌝ }
     ensures { λ r. ⌜ r ≡ record {
-        step = step n k backward i;
-        cycles = cyclesOf k (blockWith n k i);
-        backward = turned backward (backwardOf (blockWith n k i));
+      step = step n k backward i;
+      cycles = cyclesOf k (blockWith n k i);
+      backward = turned backward (backwardOf (blockWith n k i));
     } ⌝ }
 {
     let part = part_with(counts, n, k, i);
     let mut before = part.start;
     if backward {
-        before = stirling::entry(counts, n, k) - part.start - stirling::entry(counts, n - 1, part.cycles);
+        before = stirling::entry(counts, n, k)
+            - part.start
+            - stirling::entry(counts, n - 1, part.cycles);
     }
     Rung {
         step: Step {

@@ -60,9 +60,9 @@ counted c =
     let rows-before : Bool → ℕ = λ b. before (given p .args .n) (given p .args .k) b (p .part-with .result .block) in
     ⊎-elim
     (λ w.
-      let first : tie.After-entry = record { before = record { before = p; if1 = w .0 }; entry = w .1 } in
-      let second : tie.After-entry2 = record { before = record { before = first; struct-known = w .2 }; entry2 = w .3 } in
-      w .4 ∙ rest-before (p .part-with .ensures) (some p) (all first) (size second) .2 ∙ ap rows-before (sym (w .0 .taken)))
+    let first : tie.After-entry = record { before = record { before = p; if1 = w .0 }; entry = w .1 } in
+    let second : tie.After-entry2 = record { before = record { before = first; struct-known = w .2 }; entry2 = w .3 } in
+    w .4 ∙ rest-before (p .part-with .ensures) (some p) (all first) (size second) .2 ∙ ap rows-before (sym (w .0 .taken)))
     (λ w. w .1 ∙ p .part-with .ensures .first ∙ ap rows-before (sym (w .0 .left)))
     (c .if1 .came)
 
