@@ -1,8 +1,8 @@
 -- Examples of document 02, b), by computation: the rows of some permutations. Assumes nothing.
 use mathlib.Core.Path.{_≡_, refl}
 use Prim.Native.Nat.{ℕ}
-use mathlib.Core.Bool.{Bool, true, false}
-use mathlib.Core.List.{List, [], _∷_}
+use mathlib.Core.Bool.{true, false}
+use mathlib.Core.List.{[], _∷_}
 use Rattle.perm.specs.Lists.{tally, range}
 use Rattle.perm.specs.Permutation.{extend, insert, exchange}
 use Rattle.perm.specs.Cycle.{follow, least, cycles}

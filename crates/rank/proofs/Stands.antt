@@ -21,8 +21,8 @@ use Rattle.perm.proofs.Arrays.{product-permutation, cycles-product}
 use Rattle.perm.proofs.ArrayOf.{array-of, is-array-of}
 use Rattle.perm.proofs.Checked.{checked}
 use Rattle.rank.specs.declared.Entries.{Entries}
-use Rattle.rank.specs.Place.{StandsAt, HasEntries}
-use Rattle.rank.specs.Ranking.{Rankable, PlaceIn}
+use Rattle.rank.specs.Place.{StandsAt}
+use Rattle.rank.specs.Ranking.{HasEntries, Rankable, PlaceIn}
 
 -- a refusal of check 1 stands before checks 6 and 7
 pub size-refused : (s : List ℕ) (r : ℕ) → r ≡ checkSize (length s) → (r ≡ 0 → ⊥) → r ≡ checkPermutation s

@@ -4,16 +4,14 @@ use Prim.Native.Nat.{ℕ, _+_, _-_, _*_, _<_}
 use mathlib.Core.Bool.{not, _||_}
 use mathlib.Core.List.{List, _++_, flatten}
 use lib.Dec.{ltb}
-use lib.ListN.{length, take, drop, replicate}
+use lib.ListN.{length, take, drop}
 use Rattle.stirling.specs.Refusal.{refuse, _then_, within}
 use Rattle.stirling.specs.Count.{c, checkPlace}
 use Rattle.perm.specs.Cycle.{cycles}
-use Rattle.perm.specs.Array.{arrayOf}
 use Rattle.perm.specs.Checks.{checkLent, checkPermutation}
 use Rattle.gray.specs.Order.{S}
 use Rattle.gray.specs.Listing.{rowAt}
 use Rattle.rank.specs.declared.Standing.{Standing}
-use Rattle.rank.specs.declared.Entries.{Entries}
 
 -- permutation at a place: checks 1, 2, 3, 5
 abbrev pub checkUnrank : ℕ → ℕ → ℕ → ℕ → ℕ
@@ -36,13 +34,6 @@ pub record Ranked (s : List ℕ) (r : Standing) : Type 0 where
   pub refusal : r .refusal ≡ checkPermutation s
   pub answer : r .refusal ≡ 0 → StandsAt s (r .k) (r .place)
   pub zeros : (r .refusal ≡ 0 → ⊥) → (r .k ≡ 0) × (r .place ≡ 0)
-
--- the array of a permutation that is read, followed by zeros to 20 bytes, and its number of cycles: checks 1, 6, 7; or zeros
-pub record HasEntries (s : List ℕ) (r : Entries) : Type 0 where
-  pub refusal : r .refusal ≡ checkPermutation s
-  pub array : r .refusal ≡ 0 → r .array ≡ arrayOf (length s) s ++ replicate (20 - length s) 0
-  pub count : r .refusal ≡ 0 → r .k ≡ cycles s
-  pub zeros : (r .refusal ≡ 0 → ⊥) → (r .k ≡ 0) × (r .array ≡ replicate 20 0)
 
 -- the rows asked for: checks 1, 2, 3; then 4: m not 1 to 1,000, or m > c(n,k) − r
 abbrev pub checkRowCount : ℕ → ℕ → ℕ → ℕ → ℕ

@@ -3,19 +3,21 @@
 use mathlib.Core.Path.{_≡_}
 use Prim.Native.Nat.{ℕ, _+_, _-_, _≤_, _<_}
 use mathlib.Core.Bool.{Bool, false, cond}
-use mathlib.Core.List.{List, reverse}
+use mathlib.Core.List.{List, _++_, reverse}
 use lib.Dec.{eqb}
-use lib.ListN.{length, getD}
+use lib.ListN.{length, getD, replicate}
 use Rattle.stirling.specs.Count.{c}
 use Rattle.perm.specs.Permutation.{IsPermutation}
 use Rattle.perm.specs.Cycle.{cycles}
-use Rattle.perm.specs.Array.{IsArray, product}
+use Rattle.perm.specs.Array.{IsArray, product, arrayOf}
+use Rattle.perm.specs.Checks.{checkPermutation}
 use Rattle.gray.specs.declared.Block.the-variants.{Extend as E}
 use Rattle.gray.specs.Order.{Row, S}
 use Rattle.gray.specs.Blocks.{blocks}
 use Rattle.gray.specs.Listing.{rowAt}
 use Rattle.rank.specs.Search.{grown, positionOf, cyclesOf, backwardOf, numberOf, before}
 use Rattle.rank.specs.declared.Part.{Part}
+use Rattle.rank.specs.declared.Entries.{Entries}
 
 -- the cycles without value n, where n stands at position i of a permutation with k: at position n it is a cycle of its own
 abbrev pub cyclesLeft : ℕ → ℕ → ℕ → ℕ
@@ -46,6 +48,13 @@ pub record IsPart (n k i : ℕ) (p : Part) : Type 0 where
   pub left : p .cycles ≡ cyclesLeft n k i
   pub below : (r : ℕ) → r < c (n - 1) (p .cycles) → p .start + r < c n k
   pub row : (r : ℕ) → r < c (n - 1) (p .cycles) → rowAt (S n k) (p .start + r) ≡ grown n i (rowAt (readingOf (p .backward) (n - 1) (p .cycles)) r)
+
+-- the array of a permutation that is read, followed by zeros to 20 bytes, and its number of cycles: checks 1, 6, 7; or zeros
+pub record HasEntries (s : List ℕ) (r : Entries) : Type 0 where
+  pub refusal : r .refusal ≡ checkPermutation s
+  pub array : r .refusal ≡ 0 → r .array ≡ arrayOf (length s) s ++ replicate (20 - length s) 0
+  pub count : r .refusal ≡ 0 → r .k ≡ cycles s
+  pub zeros : (r .refusal ≡ 0 → ⊥) → (r .k ≡ 0) × (r .array ≡ replicate 20 0)
 
 -- a transposition array of at most 20 entries, whose permutation has k cycles
 pub record Rankable (a : List ℕ) (k : ℕ) : Type 0 where

@@ -13,9 +13,9 @@ ghost use Rattle.perm.specs.Permutation.{at};
 ghost use Rattle.perm.specs.Array.{product};
 ghost use Rattle.gray.specs.Order.{S};
 ghost use Rattle.gray.specs.Listing.{rowAt};
-ghost use Rattle.rank.specs.Place.{Unranked, Ranked, HasEntries, checkRowCount, rowsFrom, RowsWritten};
+ghost use Rattle.rank.specs.Place.{Unranked, Ranked, checkRowCount, rowsFrom, RowsWritten};
 ghost use Rattle.rank.specs.Search.{grown, cyclesOf, backwardOf, sourceOf, ExtendsAt, sourceRow, ComesFrom, Readable};
-ghost use Rattle.rank.specs.Ranking.{Occurs, IsPart, Rankable, PlaceIn};
+ghost use Rattle.rank.specs.Ranking.{Occurs, IsPart, HasEntries, Rankable, PlaceIn};
 ghost use Rattle.rank.specs.Descent.{step, blockWith, turned, steps, still, Descends};
 
 // The refusal of check 4.

@@ -1,13 +1,13 @@
 -- `rank::entries_of` meets its contract: a refusal is that of check 1, or of checks 6 and 7 as the array is made; otherwise the array stands in front of zeros, and
 -- its fixed entries are counted. Assumes nothing.
 use borrow.Author.Needs.{needs}
-use mathlib.Core.Path.{_≡_, refl, sym, ap, _∙_}
+use mathlib.Core.Path.{_≡_, refl, sym, _∙_}
 use Prim.Native.Nat.{ℕ}
 use mathlib.Core.List.{List}
 use lib.ListN.{length, replicate}
 use Rattle.stirling.specs.Count.{checkSize}
 use Rattle.perm.specs.Checks.{checkPermutation}
-use Rattle.rank.specs.Place.{HasEntries}
+use Rattle.rank.specs.Ranking.{HasEntries}
 use Rattle.rank.specs.declared.Entries.{Entries}
 use Rattle.rank.proofs.Stands.{size-refused, few-values, front-lent, array-refusal, array-read, array-inside, array-padded, fixed-cycles}
 use Rattle.rank.proofs.entries_of.Statement.{statement}
