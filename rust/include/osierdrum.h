@@ -25,7 +25,8 @@ struct osierdrum_Explanation { uint8_t refusal; uint64_t k; uint64_t place; };
 
 /* One size's part of an explanation: the letter 'a' to 'e' of the relation that gives the list at that size, whether the
  * list is read backward, the number from 0 in written order of the block that holds the permutation, and how many
- * permutations of the list stand before that block in that reading. */
+ * permutations of the list stand before that block in that reading. A level that is lent holds some value of its type, as
+ * zeros do: `backward` is 0 or 1. */
 struct osierdrum_Level { uint8_t letter; bool backward; uint64_t block; uint64_t before; };
 
 /* c(n,k), the number of permutations of n with exactly k cycles. Refusals 1, 2. */
