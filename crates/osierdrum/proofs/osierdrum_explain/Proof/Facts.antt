@@ -1,6 +1,8 @@
 -- What an `Explained` that is held says of its fields, each at its machine value as MIR lowering writes it.
---     answered     the answer is an `Explanation` that is held.        counted      the count is a usize
---     twenty       there are 20 rows.        row-is       each is a `Level` that is held (`blank` is what `getD` has for a row that is not there, which is never read)
+--     answered     the answer is an `Explanation` that is held
+--     counted      the count is a usize
+--     twenty       there are 20 rows
+--     row-is       each is a `Level` that is held (`blank` is what `getD` has for a row that is not there, which is never read)
 -- It is by the structs' laws, from the modules that `rattle check` makes of them. Assumes nothing.
 use mathlib.Core.Path.{_≡_, sym, _∙_, subst}
 use Prim.Native.Nat.{ℕ, zero, suc, _<_, _^_}
@@ -23,7 +25,9 @@ use Rattle.explain.proofs.Explained as E
 use Rattle.explain.proofs.Explained.Laws as E′
 
 -- the row i of a list of rows, each held at its machine value
-each-row : (rs : List Level) (us : List Val) → shadow (each (L.the-field .row .Denot) (L.the-field .row .own) (map (L.the-field .into) rs) us) → (i : ℕ) → i < length rs → Is L.the-row (getD rs i blank) (L′.lowered (getD rs i blank) ∷ [])
+each-row : (rs : List Level) (us : List Val)
+    → shadow (each (L.the-field .row .Denot) (L.the-field .row .own) (map (L.the-field .into) rs) us)
+    → (i : ℕ) → i < length rs → Is L.the-row (getD rs i blank) (L′.lowered (getD rs i blank) ∷ [])
 each-row [] us s i l = absurd (not-suc-le-zero l)
 each-row (r ∷ rs) [] s i l = absurd s
 each-row (r ∷ rs) (u ∷ us) s zero l = subst (Is L.the-row r) (L′.lowers .val-is r (u ∷ []) (s .0)) (s .0)
