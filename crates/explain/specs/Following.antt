@@ -31,7 +31,8 @@ made n (I i e) γ = insert n i γ
 made n (E e) γ = extend n γ
 
 -- followed downward from m and k, with the list read forward or backward, the rows lead to t: the first row names a block, the rows after it lead to some γ from m−1,
--- the cycles and the reading that the block hands down, and t is what the block makes of γ. From 0 no row is left, and none leads to the permutation of nothing
+-- the cycles and the reading that the block hands down, and t is what the block makes of γ. From 0 and no cycles, with no row left, they lead to the permutation of
+-- nothing
 unfoldable pub Leads : ℕ → ℕ → Bool → List Level → Row → Type 0
 Leads zero k backward [] t = (k ≡ 0) × (t ≡ [])
 Leads zero k backward (row ∷ rows) t = ⊥

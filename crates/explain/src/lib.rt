@@ -13,8 +13,8 @@ ghost use Rattle.explain.specs.Explain.{blank, IsExplained};
 // The refusal of check 12.
 pub const REFUSED_LEVELS: u8 = 12;
 
-// A row: the letter of the relation that gives the list at this size, as its own byte b'a' to b'e'; whether the list is read backward; the number of the block, from
-// 0 in written order; and how many rows of the list stand before the block in that reading.
+// A row: the letter of the relation that gives the list at this size, as its own byte b'a' to b'e', since no struct that holds an enum can be exported; whether the
+// list is read backward; the number of the block, from 0 in written order; and how many rows of the list stand before the block in that reading.
 #[repr(C)]
 pub struct Level {
     pub letter: u8,

@@ -22,10 +22,10 @@ use Rattle.gray.proofs.Joined.{joined-append, turn, reverse-rows}
 use Rattle.gray.proofs.Once.{length-S, complete}
 use Rattle.rank.specs.Search.{grown, positionOf, cyclesOf, backwardOf, numberIn, numberOf, before}
 use Rattle.rank.specs.Ranking.{cyclesLeft, readingOf}
+use Rattle.rank.specs.Descent.{blockWith, turned, shorter}
 use Rattle.rank.proofs.Reversed.{row-cycles}
 use Rattle.rank.proofs.Search.{blockRows, length-block, block-row, ahead-all, in-range}
 use Rattle.rank.proofs.Parts.{one-position, left-of}
-use Rattle.rank.specs.Descent.{turned, blockWith, shorter}
 use Rattle.rank.proofs.Without.{made}
 
 -- a row stands in one of some blocks
