@@ -4,7 +4,7 @@
 mod reference;
 
 use osierdrum::{count, from_array, rank, rows, to_array, unrank, Refusal};
-use reference::{damaged, Random, Reference};
+use reference::{damaged, short_slices, Random, Reference};
 
 /// Numbers at and beside every bound of document 01, and at the ends of the machine's words.
 const NUMBERS: [u64; 22] = [
@@ -134,13 +134,10 @@ fn slices_in_rank_and_arrays() {
 #[test]
 fn every_short_slice() {
     let reference = Reference::new();
-    for n in 0..=4u32 {
-        for code in 0..6u32.pow(n) {
-            let s: Vec<u8> = (0..n).map(|i| (code / 6u32.pow(i) % 6) as u8).collect();
-            assert_eq!(rank(&s).map(|r| (r.k, r.place)).map_err(|refusal| refusal as u8), reference.rank(&s));
-            same(n as usize, |out| to_array(&s, out), |out| reference.to_array(&s, out));
-            same(n as usize, |out| from_array(&s, out), |out| reference.from_array(&s, out));
-        }
+    for s in short_slices() {
+        assert_eq!(rank(&s).map(|r| (r.k, r.place)).map_err(|refusal| refusal as u8), reference.rank(&s));
+        same(s.len(), |out| to_array(&s, out), |out| reference.to_array(&s, out));
+        same(s.len(), |out| from_array(&s, out), |out| reference.from_array(&s, out));
     }
 }
 

@@ -10,7 +10,7 @@ use osierdrum::{explain, explain_into, rank, Explanation, Level, Rank, Refusal};
 use reference::{
     damaged,
     relations::{followed, Lists},
-    Random, Reference,
+    short_slices, Random, Reference,
 };
 use std::collections::HashSet;
 
@@ -32,6 +32,13 @@ fn same(reference: &Reference, s: &[u8], size: usize) -> u8 {
     assert_eq!(ours[..GUARD], before[..GUARD]);
     assert_eq!(ours[GUARD + written..], before[GUARD + written..], "{s:?} with {size}");
     given.err().unwrap_or(0)
+}
+
+/// The permutation at a place, by the reference.
+fn row(reference: &Reference, n: u64, k: u64, place: u64) -> Vec<u8> {
+    let mut s = vec![0; n as usize];
+    assert_eq!(reference.unrank(n, k, place, &mut s), Ok(()));
+    s
 }
 
 /// What document 02 asks of every explanation.
@@ -88,8 +95,7 @@ fn random_permutations_up_to_twenty() {
         for k in n.min(1)..=n {
             let most = reference.count(n, k).unwrap();
             for place in [0, most / 2, most - 1].into_iter().chain((0..100).map(|_| random.below(most))) {
-                let mut s = vec![0; n as usize];
-                assert_eq!(reference.unrank(n, k, place, &mut s), Ok(()));
+                let s = row(&reference, n, k, place);
                 assert_eq!(same(&reference, &s, s.len()), 0);
                 let why = explain(&s).unwrap();
                 assert_eq!((why.k, why.place), (k, place));
@@ -105,9 +111,7 @@ fn levels_lent() {
     let mut random = Random(3);
     for n in 0..=20u64 {
         for k in n.min(1)..=n {
-            let mut s = vec![0; n as usize];
-            let place = random.below(reference.count(n, k).unwrap());
-            assert_eq!(reference.unrank(n, k, place, &mut s), Ok(()));
+            let s = row(&reference, n, k, random.below(reference.count(n, k).unwrap()));
             for size in 0..=24 {
                 assert_eq!(same(&reference, &s, size), if size < s.len() { 12 } else { 0 }, "{s:?} with {size}");
             }
@@ -166,12 +170,9 @@ fn damaged_at_random() {
 #[test]
 fn every_short_slice() {
     let reference = Reference::new();
-    for n in 0..=4u32 {
-        for code in 0..6u32.pow(n) {
-            let s: Vec<u8> = (0..n).map(|i| (code / 6u32.pow(i) % 6) as u8).collect();
-            for size in 0..=s.len() + 1 {
-                same(&reference, &s, size);
-            }
+    for s in short_slices() {
+        for size in 0..=s.len() + 1 {
+            same(&reference, &s, size);
         }
     }
 }

@@ -5,14 +5,14 @@ use native.Mathlib.Nat.{lt-trans}
 use native.Mathlib.Omega.{arith}
 use mathlib.Core.Bool.{false}
 use mathlib.Core.List.{List, [], _++_}
-use borrow.Author.Tests.{lt-ltb, le-ltb}
+use lib.Dec.{ltb}
 use lib.ListN.{length, take, replicate, length-append, length-replicate}
 use lib.Seq.{take-at}
-use Rattle.stirling.proofs.Refusals.{unless-passes, unless-refuses}
+use Rattle.stirling.specs.Refusal.{refuse, _then_}
+use Rattle.stirling.proofs.Refusals.{then-passed, unless-passes, unless-refuses}
 use Rattle.stirling.proofs.Counts.{fits}
 use Rattle.perm.specs.Permutation.{IsPermutation}
 use Rattle.perm.specs.Cycle.{cycles}
-use Rattle.perm.specs.Checks.{checkPermutation}
 use Rattle.rank.specs.declared.Step.{Step}
 use Rattle.rank.specs.declared.Descent.{Descent}
 use Rattle.rank.specs.Place.{StandsAt}
@@ -43,49 +43,53 @@ stands s p =
     let at = placed (length s) (cycles s) false s (record { permutation = p; count = refl }) in
     record { count = refl; below = at .below; row = at .row }
 
--- where the way down is not refused
-module _ {s : List ℕ} {d : Descent} (w : Descends s d) (passed : d .refusal ≡ 0) where
-  checks : checkPermutation s ≡ 0
-  checks = sym (w .refusal) ∙ passed
+-- the way down, and the refusal of it or of check 12
+module _ {s : List ℕ} {d : Descent} (w : Descends s d) (lent : ℕ) {r : ℕ} (e : r ≡ d .refusal then refuse (ltb lent (length s)) 12) where
+  pub refusal-is : r ≡ checkExplain s lent
+  refusal-is = e ∙ ap (λ (x : ℕ). x then refuse (ltb lent (length s)) 12) (w .refusal)
 
-  -- the rows of its first n steps are those of the permutation
-  same-rows : lettered (length s) (take (length s) (d .steps)) ≡ rowsOf s
-  same-rows =
-      ap (λ (path : List Step). lettered (length s) (take (length s) path)) (w .path passed)
-      ∙ ap (lettered (length s)) (take-at (steps (length s) (cycles s) false s) (replicate (20 - length s) still) (length s) (length-steps (length s) (cycles s) false s))
+  -- no refusal
+  module _ (passed : r ≡ 0) where
+    down : d .refusal ≡ 0
+    down = then-passed (d .refusal) (refuse (ltb lent (length s)) 12) (sym e ∙ passed) .0
 
-  -- at most 20, of 20, and what they add up to fits
-  pub fit : (length s ≤ 20) × (length (d .steps) ≡ 20) × (total (lettered (length s) (take (length s) (d .steps))) < 2 ^ 64)
-  fit =
-      let (few, permutation) = permutation-passed s checks in
-      let path = steps (length s) (cycles s) false s in (
-        few,
-        ap length (w .path passed) ∙ omega (arith, length-append path (replicate (20 - length s) still), length-steps (length s) (cycles s) false s, length-replicate (20 - length s) still),
-        rw same-rows (lt-trans (stands s permutation .below) (fits (length s) (cycles s) few)),
-      )
+    permutation : (length s ≤ 20) × IsPermutation (length s) s
+    permutation = permutation-passed s (sym (w .refusal) ∙ down)
 
-  -- too few rows lent
-  pub is-short : (lent : ℕ) → lent < length s → 12 ≡ checkExplain s lent
-  is-short lent few = rw (checks, lt-ltb lent (length s) few)
+    -- the rows of its first n steps are those of the permutation
+    same-rows : lettered (length s) (take (length s) (d .steps)) ≡ rowsOf s
+    same-rows =
+        ap (λ (path : List Step). lettered (length s) (take (length s) path)) (w .path down)
+        ∙ ap (lettered (length s)) (take-at (steps (length s) (cycles s) false s) (replicate (20 - length s) still) (length s) (length-steps (length s) (cycles s) false s))
 
-  -- enough rows lent
-  pub is-explained : (lent : ℕ) (sum : Summed) → length s ≤ lent
-      → sum ≡ record {
-        place = total (lettered (length s) (take (length s) (d .steps)));
-        rows = lettered (length s) (take (length s) (d .steps)) ++ replicate (20 - length s) blank;
-      }
-      → IsExplained s lent (record { answer = record { refusal = 0; k = d .k; place = sum .place }; count = length s; rows = sum .rows })
-  is-explained lent sum enough e =
-      let none : checkExplain s lent ≡ 0 = rw (checks, le-ltb lent (length s) enough) in
-      let all : rowsWritten s lent ≡ rowsOf s = unless-passes (checkExplain s lent) (rowsOf s) [] none in
-      let place-is : sum .place ≡ total (rowsOf s) = ap (λ (x : Summed). x .place) e ∙ ap total same-rows in
-      let rows-are : sum .rows ≡ rowsOf s ++ replicate (20 - length s) blank = ap (λ (x : Summed). x .rows) e ∙ rw same-rows in
-      record {
-        answer = record {
-          refusal = sym none;
-          standing = λ _. rw (w .count passed, place-is) (stands s (permutation-passed s checks .1));
-          zeros = λ h. absurd (h refl);
-        };
-        count = rw (all, length-levels (length s) (cycles s) false s);
-        rows = rw all rows-are;
-      }
+    -- at most 20, of 20, and what they add up to fits
+    pub fit : (length s ≤ 20) × (length (d .steps) ≡ 20) × (total (lettered (length s) (take (length s) (d .steps))) < 2 ^ 64)
+    fit =
+        let path = steps (length s) (cycles s) false s in
+        let few = permutation .0 in
+        (
+          few,
+          ap length (w .path down)
+          ∙ omega (arith, length-append path (replicate (20 - length s) still), length-steps (length s) (cycles s) false s, length-replicate (20 - length s) still),
+          rw same-rows (lt-trans (stands s (permutation .1) .below) (fits (length s) (cycles s) few)),
+        )
+
+    pub is-explained : (sum : Summed)
+        → sum ≡ record {
+          place = total (lettered (length s) (take (length s) (d .steps)));
+          rows = lettered (length s) (take (length s) (d .steps)) ++ replicate (20 - length s) blank;
+        }
+        → IsExplained s lent (record { answer = record { refusal = r; k = d .k; place = sum .place }; count = length s; rows = sum .rows })
+    is-explained sum f =
+        let all : rowsWritten s lent ≡ rowsOf s = unless-passes (checkExplain s lent) (rowsOf s) [] (sym refusal-is ∙ passed) in
+        let place-is : sum .place ≡ total (rowsOf s) = ap (λ (x : Summed). x .place) f ∙ ap total same-rows in
+        let rows-are : sum .rows ≡ rowsOf s ++ replicate (20 - length s) blank = ap (λ (x : Summed). x .rows) f ∙ rw same-rows in
+        record {
+          answer = record {
+            refusal = refusal-is;
+            standing = λ _. rw (w .count down, place-is) (stands s (permutation .1));
+            zeros = λ h. absurd (h passed);
+          };
+          count = rw (all, length-levels (length s) (cycles s) false s);
+          rows = rw all rows-are;
+        }

@@ -21,7 +21,7 @@ use Rattle.rank.specs.Search.{grown, positionOf, cyclesOf, backwardOf, numberOf
 use Rattle.rank.specs.Descent.{blockWith, turned, shorter, steps}
 use Rattle.rank.proofs.Grown.{grown-insert, grown-extend}
 use Rattle.rank.proofs.Without as Without
-use Rattle.rank.proofs.Before.{found, left}
+use Rattle.rank.proofs.Found.{found, left}
 use Rattle.explain.specs.declared.Level.{Level}
 use Rattle.explain.specs.Levels.{letterByte, lettered, levels}
 use Rattle.explain.specs.Following.{Names, made, Leads}

@@ -14,7 +14,8 @@ use Rattle.rank.specs.Ranking.{readingOf}
 use Rattle.rank.proofs.Reading.{none-forward, none-backward}
 use Rattle.rank.specs.Descent.{blockWith, turned, shorter, steps}
 use Rattle.rank.proofs.Without.{made}
-use Rattle.rank.proofs.Before.{found, left, below-block, row-from}
+use Rattle.rank.proofs.Around.{below-block, row-from}
+use Rattle.rank.proofs.Found.{found, left}
 use Rattle.explain.specs.Levels.{lettered, levels, total}
 
 -- one step for each size

@@ -17,7 +17,7 @@ use Rattle.gray.proofs.Indexed.{block}
 use Rattle.gray.proofs.Which.{Which, is-none, is-a, is-b, is-c, is-d, is-e, which}
 use Rattle.rank.specs.Search.{cyclesOf, backwardOf, numberOf, before}
 use Rattle.rank.specs.Descent.{step, blockWith, turned, shorter, steps}
-use Rattle.rank.proofs.Before.{found}
+use Rattle.rank.proofs.Found.{found}
 use Rattle.explain.specs.Levels.{letterByte, level, lettered, levels}
 
 -- a size without a choice: (b), or (a) at 1 and 2

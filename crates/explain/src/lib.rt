@@ -6,7 +6,9 @@ use rank::Step;
 ghost use mathlib.Core.Path.{_≡_};
 ghost use Prim.Native.Nat.{_-_, _≤_, _<_, _^_};
 ghost use mathlib.Core.List.{_++_};
+ghost use lib.Dec.{ltb};
 ghost use lib.ListN.{length, take, replicate};
+ghost use Rattle.stirling.specs.Refusal.{refuse, _then_};
 ghost use Rattle.explain.specs.Levels.{letterByte, level, lettered, total};
 ghost use Rattle.explain.specs.Explain.{blank, IsExplained};
 
@@ -98,6 +100,19 @@ fn sum_up(n: usize, steps: [Step; 20]) -> Summed
     Summed { place, rows }
 }
 
+// The refusal of a permutation of n that was read, and then check 12: at least n rows are lent.
+fn check_levels(read: u8, n: usize, lent: usize) -> u8
+    ensures { λ r. ⌜ r ≡ read then refuse (ltb lent n) 12 ⌝ }
+{
+    if read != 0 {
+        return read;
+    }
+    if lent < n {
+        return REFUSED_LEVELS;
+    }
+    0
+}
+
 // A refusal, with nothing to write.
 fn unexplained(refusal: u8) -> Explained
     ensures { λ r. ⌜ r ≡ record {
@@ -122,19 +137,17 @@ pub fn explain(s: &[u8], lent: usize) -> Explained
     ensures { λ r. ⌜ IsExplained (now (s .entry)) lent r ⌝ }
 {
     let descent = rank::descend(s);
-    if descent.refusal != 0 {
-        return unexplained(descent.refusal);
-    }
     let n = s.len();
-    if lent < n {
-        return unexplained(REFUSED_LEVELS);
+    let refusal = check_levels(descent.refusal, n, lent);
+    if refusal != 0 {
+        return unexplained(refusal);
     }
     let steps = descent.steps;
     let sum = sum_up(n, steps);
     let rows = sum.rows;
     Explained {
         answer: Explanation {
-            refusal: 0,
+            refusal,
             k: descent.k,
             place: sum.place,
         },

@@ -6,30 +6,17 @@ use native.Mathlib.Omega.{arith}
 use mathlib.Core.Bool.{Bool, false}
 use mathlib.Core.List.{List, [], _∷_, _++_, append-assoc, append-nil}
 use lib.ListN.{length, getD, take, set, replicate, length-append}
-use lib.Seq.{length-take-le, take-length, take-take, take-at, getD-at, getD-take, set-at}
+use lib.Seq.{length-take-le, take-length, take-take, getD-take, set-at}
 use Rattle.perm.specs.Array.{IsArray, product}
-use Rattle.perm.proofs.Arrays.{Last, fixed, moved, last, product-extend, product-insert, product-permutation}
-use Rattle.perm.proofs.ArrayOf.{Without, without-extend, without-insert}
+use Rattle.perm.proofs.Arrays.{product-permutation}
 use Rattle.gray.specs.Listing.{HasCycles}
 use Rattle.rank.specs.declared.Step.{Step}
 use Rattle.rank.specs.Search.{cyclesOf, backwardOf}
 use Rattle.rank.specs.Ranking.{Occurs, Rankable}
 use Rattle.rank.proofs.Ranking.{occurs}
 use Rattle.rank.specs.Descent.{step, blockWith, turned, steps, still}
-use Rattle.rank.proofs.Before.{left}
-
--- an array p of m + 1 entries is q and then i: without m + 1 its permutation is that of q
-record Cut (m i : ℕ) (q p : List ℕ) : Type 0 where
-  array : IsArray m q
-  without : Without m (product p) i (product q)
-
-cut-last : {m : ℕ} {p : List ℕ} → Last m p → Cut m (getD p m 0) (take m p) p
-cut-last {m} (fixed p a) =
-    rw (take-at p (suc m ∷ []) m (a .size), getD-at p (suc m) [] 0 m (a .size))
-    (record { array = a; without = rw (product-extend a) (without-extend (product-permutation a)) })
-cut-last {m} (moved i p h l a) =
-    rw (take-at p (i ∷ []) m (a .size), getD-at p i [] 0 m (a .size))
-    (record { array = a; without = rw (product-insert i h l a) (without-insert i h l (product-permutation a)) })
+use Rattle.rank.proofs.Without.{Cut, cut}
+use Rattle.rank.proofs.Found.{left}
 
 -- the permutation of the first m entries of an array, where these are rankable
 module _ (a : List ℕ) {m k : ℕ} (h : m ≤ length a) (w : Rankable (take m a) k) where
@@ -47,9 +34,9 @@ module _ (a : List ℕ) {m k : ℕ} (h : m ≤ length a) (w : Rankable (take m a
 
 -- one entry less
 module _ (a : List ℕ) {m k : ℕ} (h : suc m ≤ length a) (w : Rankable (take (suc m) a) k) where
-  cut : Cut m (getD a m 0) (take m a) (take (suc m) a)
-  cut =
-      rw (getD-take (suc m) a m 0 (omega arith), take-take m (suc m) a (omega arith)) at (cut-last (last (is-array a h w)))
+  cut-here : Cut m (getD a m 0) (take m a) (take (suc m) a)
+  cut-here =
+      rw (getD-take (suc m) a m 0 (omega arith), take-take m (suc m) a (omega arith)) at (cut (is-array a h w))
 
   -- the steps from m + 1 down are that of m + 1 and those from m down
   one-less : (backward : Bool) → steps (suc m) k backward (product (take (suc m) a))
@@ -59,7 +46,7 @@ module _ (a : List ℕ) {m k : ℕ} (h : suc m ≤ length a) (w : Rankable (take
       (turned backward (backwardOf (blockWith (suc m) k (getD a m 0))))
       (product (take m a))
   unfolding steps
-  one-less backward = rw (cut .without .left, cut .without .here)
+  one-less backward = rw (cut-here .without .left, cut-here .without .here)
 
   -- and the entries before are rankable
   rankable-less : Rankable (take m a) (cyclesOf k (blockWith (suc m) k (getD a m 0)))
@@ -67,8 +54,8 @@ module _ (a : List ℕ) {m k : ℕ} (h : suc m ≤ length a) (w : Rankable (take
       let e = length-take-le m a (omega arith) in
       record {
         small = omega (arith, e, w .small, length-take-le (suc m) a h);
-        array = rw e (cut .array);
-        count = rw (cut .without .left, cut .without .here) at (left (has-cycles a h w) .count);
+        array = rw e (cut-here .array);
+        count = rw (cut-here .without .left, cut-here .without .here) at (left (has-cycles a h w) .count);
       }
 
 -- the steps of the permutation of an array

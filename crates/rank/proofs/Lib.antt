@@ -3,11 +3,12 @@ pub mod Reversed
 pub mod Grown
 pub mod Search
 pub mod Extension
+pub mod Without
+pub mod Around
+pub mod Found
 pub mod Parts
 pub mod Ranking
 pub mod Stands
-pub mod Without
-pub mod Before
 pub mod Rungs
 pub mod Descending
 pub mod Reading

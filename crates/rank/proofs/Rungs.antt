@@ -11,7 +11,7 @@ use Rattle.rank.specs.Search.{cyclesOf, backwardOf, numberOf, before}
 use Rattle.rank.specs.Ranking.{IsPart}
 use Rattle.rank.specs.declared.Rung.{Rung}
 use Rattle.rank.specs.Descent.{step, turned, blockWith}
-use Rattle.rank.proofs.Before.{all-rows}
+use Rattle.rank.proofs.Around.{all-rows}
 
 -- a reading is turned where the two differ
 differs : (backward odd : Bool) → not (Bool·beq backward odd) ≡ turned backward odd

@@ -29,10 +29,10 @@ pub record Holds (rs : List Row) (row : Row) (r : ℕ) : Type 0 where
   pub here : row ≡ rowAt rs r
 
 -- in two lists joined: at a place within the first, or at one of the second
-first-part : (s t : List Row) {row : Row} {r : ℕ} → Holds (s ++ t) row r → r < length s → row ≡ rowAt s r
+pub first-part : (s t : List Row) {row : Row} {r : ℕ} → Holds (s ++ t) row r → r < length s → row ≡ rowAt s r
 first-part s t w h = w .here ∙ List·getD-append s t [] _ h
 
-second-part : (s t : List Row) {row : Row} {r : ℕ} → Holds (s ++ t) row r → length s ≤ r → Holds t row (r - length s)
+pub second-part : (s t : List Row) {row : Row} {r : ℕ} → Holds (s ++ t) row r → length s ≤ r → Holds t row (r - length s)
 second-part s t {row} {r} w h =
     let e : r ≡ length s + (r - length s) = omega arith in
     record {

@@ -37,7 +37,8 @@ pub record Occurs (n k i : ℕ) : Type 0 where
 abbrev pub readingOf : Bool → ℕ → ℕ → List Row
 readingOf backward n k = cond backward (reverse (S n k)) (S n k)
 
--- the part of S(n,k) that has value n at position i: the block with its number, made from a list for n−1 row by row; `start` rows stand before it
+-- the part of S(n,k) that has value n at position i: the block that puts n there, by its number, with the cycles and the reading of the list for n−1 that it is made
+-- from; `start` rows stand before it
 pub record IsPart (n k i : ℕ) (p : Part) : Type 0 where
   pub number : p .block ≡ numberOf n k i
   pub inside : p .block < length (blocks n k)
@@ -45,9 +46,6 @@ pub record IsPart (n k i : ℕ) (p : Part) : Type 0 where
   pub cycles : p .cycles ≡ cyclesOf k (getD (blocks n k) (p .block) (E 0))
   pub backward : p .backward ≡ backwardOf (getD (blocks n k) (p .block) (E 0))
   pub first : p .start ≡ before n k false (p .block)
-  pub left : p .cycles ≡ cyclesLeft n k i
-  pub below : (r : ℕ) → r < c (n - 1) (p .cycles) → p .start + r < c n k
-  pub row : (r : ℕ) → r < c (n - 1) (p .cycles) → rowAt (S n k) (p .start + r) ≡ grown n i (rowAt (readingOf (p .backward) (n - 1) (p .cycles)) r)
 
 -- the array of a permutation that is read, followed by zeros to 20 bytes, and its number of cycles: checks 1, 6, 7; or zeros
 pub record HasEntries (s : List ℕ) (r : Entries) : Type 0 where

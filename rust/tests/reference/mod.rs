@@ -413,3 +413,9 @@ pub fn damaged(random: &mut Random, n: usize) -> Vec<u8> {
     }
     s
 }
+
+/// Every slice of up to four bytes with values 0 to 5.
+pub fn short_slices() -> impl Iterator<Item = Vec<u8>> {
+    let slice = |n, code: u32| (0..n).map(|i| (code / 6u32.pow(i) % 6) as u8).collect();
+    (0..=4u32).flat_map(move |n| (0..6u32.pow(n)).map(move |code| slice(n, code)))
+}

@@ -24,7 +24,7 @@ abbrev μ-loop : tie.MeasureT-loop
 μ-loop counts n k i start₀ j₀ start j = length (blocks n k) - j
 
 loop-holds : tie.Need-loop-holds Inv-loop μ-loop
-loop-holds c = let s = c .before in none-passed (s .args .n) (s .args .k) (s .args .i) (omega (arith, s .pre .1 .position))
+loop-holds c = let s = c .before in none-passed (s .args .n) (s .args .k) (s .args .i)
 
 block-at-requires : tie.Need-block-at-requires Inv-loop μ-loop
 block-at-requires c κs = search needs
