@@ -66,11 +66,10 @@ module _ {s : List ℕ} {d : Descent} (w : Descends s d) (lent : ℕ) {r : ℕ} 
     pub fit : (length s ≤ 20) × (length (d .steps) ≡ 20) × (total (lettered (length s) (take (length s) (d .steps))) < 2 ^ 64)
     fit =
         let path = steps (length s) (cycles s) false s in
-        let few = permutation .0 in
-        (
+        let few = permutation .0 in (
           few,
           ap length (w .path down)
-          ∙ omega (arith, length-append path (replicate (20 - length s) still), length-steps (length s) (cycles s) false s, length-replicate (20 - length s) still),
+              ∙ omega (arith, length-append path (replicate (20 - length s) still), length-steps (length s) (cycles s) false s, length-replicate (20 - length s) still),
           rw same-rows (lt-trans (stands s (permutation .1) .below) (fits (length s) (cycles s) few)),
         )
 

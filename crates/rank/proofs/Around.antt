@@ -18,7 +18,7 @@ use Rattle.gray.proofs.InPlace.{InPlace, in-place}
 use Rattle.gray.proofs.Joined.{joined-append, turn, reverse-rows}
 use Rattle.gray.proofs.Once.{length-S}
 use Rattle.rank.specs.Search.{grown, positionOf, cyclesOf, backwardOf, before}
-use Rattle.rank.specs.Ranking.{cyclesLeft, readingOf}
+use Rattle.rank.specs.Ranking.{cyclesLeft, readingOf, PlaceIn}
 use Rattle.rank.specs.Descent.{turned}
 use Rattle.rank.proofs.Search.{blockRows, length-block, block-row, ahead, ahead-all}
 
@@ -85,7 +85,7 @@ module _ (n k j : ℕ) (h : 1 ≤ n) (l : j < length (blocks n k)) where
       turned-over = reverse-append A (B ++ C) ∙ ap (λ (rs : List Row). rs ++ reverse A) (reverse-append B C) ∙ append-assoc (reverse C) (reverse B) (reverse A)
 
   -- and are rows of the list
-  pub below-block : (backward : Bool) (r : ℕ) → r < c (n - 1) (cyclesOf k b) → before n k backward j + r < c n k
+  below-block : (backward : Bool) (r : ℕ) → r < c (n - 1) (cyclesOf k b) → before n k backward j + r < c n k
   below-block false r u = omega (arith, all-rows)
   below-block true r u = omega (arith, all-rows)
 
@@ -107,9 +107,20 @@ block-turned false n k b r h p u = rw (turned-forward (backwardOf b)) (block-row
 block-turned true n k (I i e) r h p u = rw (turned-backward (odd e), reverse-rows n _ _ (I i e)) (block-row n k (I i (suc e)) r h p u)
 block-turned true n k (E e) r h p u = rw (turned-backward (odd e), reverse-rows n _ _ (E e)) (block-row n k (E (suc e)) r h p u)
 
--- so the row of a reading at a place within its block j
-pub row-from : (backward : Bool) (n k j r : ℕ) → 1 ≤ n → j < length (blocks n k) → r < c (n - 1) (cyclesOf k (block (blocks n k) j))
-    → rowAt (readingOf backward n k) (before n k backward j + r)
-    ≡ grown n (positionOf n (block (blocks n k) j))
-    (rowAt (readingOf (turned backward (backwardOf (block (blocks n k) j))) (n - 1) (cyclesOf k (block (blocks n k) j))) r)
-row-from backward n k j r h l u = from-block n k j h l backward r u ∙ block-turned backward n k (block (blocks n k) j) r h (in-place n k j) u
+-- so where γ stands in the shorter list, as the block reads it, tells where the permutation that the block makes of it stands: the rows before the block come first
+pub placed-in : (backward : Bool) (n k j r : ℕ) {s γ : Row}
+    → 1 ≤ n
+    → j < length (blocks n k)
+    → s ≡ grown n (positionOf n (block (blocks n k) j)) γ
+    → PlaceIn (turned backward (backwardOf (block (blocks n k) j))) (n - 1) (cyclesOf k (block (blocks n k) j)) γ r
+    → PlaceIn backward n k s (before n k backward j + r)
+placed-in backward n k j r h l e inner =
+    let b = block (blocks n k) j in
+    record {
+      below = below-block n k j h l backward r (inner .below);
+      row =
+          from-block n k j h l backward r (inner .below)
+          ∙ block-turned backward n k b r h (in-place n k j) (inner .below)
+          ∙ ap (grown n (positionOf n b)) (inner .row)
+          ∙ sym e;
+    }

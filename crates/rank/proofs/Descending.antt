@@ -8,12 +8,11 @@ use mathlib.Core.List.{List, [], _∷_, _++_, append-assoc, append-nil}
 use lib.ListN.{length, getD, take, set, replicate, length-append}
 use lib.Seq.{length-take-le, take-length, take-take, getD-take, set-at}
 use Rattle.perm.specs.Array.{IsArray, product}
-use Rattle.perm.proofs.Arrays.{product-permutation}
 use Rattle.gray.specs.Listing.{HasCycles}
 use Rattle.rank.specs.declared.Step.{Step}
 use Rattle.rank.specs.Search.{cyclesOf, backwardOf}
 use Rattle.rank.specs.Ranking.{Occurs, Rankable}
-use Rattle.rank.proofs.Ranking.{occurs}
+use Rattle.rank.proofs.Ranking.{of-cycles, occurs}
 use Rattle.rank.specs.Descent.{step, blockWith, turned, steps, still}
 use Rattle.rank.proofs.Without.{Cut, cut}
 use Rattle.rank.proofs.Found.{left}
@@ -24,7 +23,7 @@ module _ (a : List ℕ) {m k : ℕ} (h : m ≤ length a) (w : Rankable (take m a
   is-array = rw (length-take-le m a h) at (w .array)
 
   has-cycles : HasCycles m k (product (take m a))
-  has-cycles = record { permutation = product-permutation is-array; count = w .count }
+  has-cycles = rw (length-take-le m a h) at (of-cycles w)
 
   -- an entry names a part of the list
   pub occurs-at : 1 ≤ m → Occurs m k (getD a (m - 1) 0)

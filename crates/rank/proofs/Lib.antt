@@ -3,6 +3,7 @@ pub mod Reversed
 pub mod Grown
 pub mod Search
 pub mod Extension
+pub mod Reading
 pub mod Without
 pub mod Around
 pub mod Found
@@ -11,7 +12,6 @@ pub mod Ranking
 pub mod Stands
 pub mod Rungs
 pub mod Descending
-pub mod Reading
 pub mod RowBytes
 pub mod RowChecks
 pub mod RoundTrip

@@ -15,7 +15,7 @@ use Rattle.stirling.proofs.Counts.{size-passed}
 use Rattle.perm.specs.Lists.{tally, positions}
 use Rattle.perm.specs.Permutation.{IsPermutation, at}
 use Rattle.perm.specs.Cycle.{cycles}
-use Rattle.perm.specs.Array.{IsArrayOf, arrayOf}
+use Rattle.perm.specs.Array.{IsArrayOf, product, arrayOf}
 use Rattle.perm.specs.Checks.{checkValues, checkTwice, checkPermutation, ToArray}
 use Rattle.perm.proofs.Arrays.{product-permutation, cycles-product}
 use Rattle.perm.proofs.ArrayOf.{array-of, is-array-of}
@@ -97,7 +97,7 @@ module _ {s : List ℕ} {r : Entries} (w : HasEntries s r) (passed : r .refusal 
       record { small = omega (arith, size, is-permutation .0); array = rw size (a .array); count = ap cycles (a .equal) ∙ sym (w .count passed) }
 
   -- its place is that of the permutation
-  pub stands : {place : ℕ} → PlaceIn false (take (length s) (r .array)) (r .k) place → StandsAt s (r .k) place
+  pub stands : {place : ℕ} → PlaceIn false (length (take (length s) (r .array))) (r .k) (product (take (length s) (r .array))) place → StandsAt s (r .k) place
   stands p =
       let a = entries-array in
       record {

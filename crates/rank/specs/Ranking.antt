@@ -60,7 +60,7 @@ pub record Rankable (a : List ℕ) (k : ℕ) : Type 0 where
   pub array : IsArray (length a) a
   pub count : cycles (product a) ≡ k
 
--- the permutation of an array stands at a place of S(n,k), read forward or backward
-pub record PlaceIn (backward : Bool) (a : List ℕ) (k place : ℕ) : Type 0 where
-  pub below : place < c (length a) k
-  pub row : rowAt (readingOf backward (length a) k) place ≡ product a
+-- s stands at a place of S(n,k), read forward or backward
+pub record PlaceIn (backward : Bool) (n k : ℕ) (s : Row) (place : ℕ) : Type 0 where
+  pub below : place < c n k
+  pub row : rowAt (readingOf backward n k) place ≡ s

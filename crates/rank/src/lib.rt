@@ -246,7 +246,7 @@ fn rank_within(counts: &[u64], a: &[u8], k: u64) -> u64
     requires { ⌜ IsTable (now counts) ⌝ }
     requires { ⌜ 1 ≤ length (now a) ⌝ }
     requires { ⌜ Rankable (now a) k ⌝ }
-    ensures { λ r. ⌜ PlaceIn false (now (a .entry)) k r ⌝ }
+    ensures { λ r. ⌜ PlaceIn false (length (now (a .entry))) k (product (now (a .entry))) r ⌝ }
 {
     let last = a.len() - 1;
     let part = part_with(counts, a.len() as u64, k, a[last] as u64);
@@ -262,7 +262,7 @@ fn rank_within(counts: &[u64], a: &[u8], k: u64) -> u64
 fn rank_forward(counts: &[u64], a: &[u8], k: u64) -> u64
     requires { ⌜ IsTable (now counts) ⌝ }
     requires { ⌜ Rankable (now a) k ⌝ }
-    ensures { λ r. ⌜ PlaceIn false (now (a .entry)) k r ⌝ }
+    ensures { λ r. ⌜ PlaceIn false (length (now (a .entry))) k (product (now (a .entry))) r ⌝ }
 {
     if a.len() == 0 {
         return 0;
@@ -274,7 +274,7 @@ fn rank_forward(counts: &[u64], a: &[u8], k: u64) -> u64
 fn rank_backward(counts: &[u64], a: &[u8], k: u64) -> u64
     requires { ⌜ IsTable (now counts) ⌝ }
     requires { ⌜ Rankable (now a) k ⌝ }
-    ensures { λ r. ⌜ PlaceIn true (now (a .entry)) k r ⌝ }
+    ensures { λ r. ⌜ PlaceIn true (length (now (a .entry))) k (product (now (a .entry))) r ⌝ }
 {
     if a.len() == 0 {
         return 0;

@@ -13,9 +13,10 @@ use borrow.Author.Needs.{needs}
 use borrow.Fn.Kinds.{In}
 use borrow.Fn.PlainCycle.{Measures, is, falls, and}
 use Rattle.stirling.specs.Count.{c as count, IsTable}
+use Rattle.perm.specs.Array.{product}
 use Rattle.stirling.proofs.Counts.{fits}
 use Rattle.rank.specs.Ranking.{Rankable, PlaceIn}
-use Rattle.rank.proofs.Ranking.{none-placed, occurs, rankable, placed, turned}
+use Rattle.rank.proofs.Ranking.{none-ranked, occurs, rankable, placed, turned-round}
 use Rattle.rank.proofs.rank_backward.Reads as backward
 use Rattle.rank.proofs.rank_backward.Kinds as backward-kinds
 use Rattle.rank.proofs.+rank_backward+rank_forward+rank_within.Lts-rank_backward as backward-lts
@@ -115,7 +116,8 @@ module _ (t : ℕ) where
 
   -- after either call: the place, read forward
   within-placed : (c : within-lts.Joined1 (within-calls t) (within-at t) within.Post)
-      → PlaceIn false (within-entry (c .before) .args .a .now) (within-entry (c .before) .args .k) (c .before .part-with .result .start + c .if1 .inner)
+      → PlaceIn false (length (within-entry (c .before) .args .a .now)) (within-entry (c .before) .args .k) (product (within-entry (c .before) .args .a .now))
+      (c .before .part-with .result .start + c .if1 .inner)
   within-placed c =
       let (h, w) = within-entry (c .before) .pre .1 .1 in
       let part = c .before .part-with .ensures in
@@ -135,7 +137,7 @@ module _ (t : ℕ) where
 -- the forward reading
 module _ (t : ℕ) where
   forward-returns : forward-lts.Need-returns (forward-calls t) (forward-at t) forward.Post
-  forward-returns c = none-placed false (c .if1 .taken) (c .before .before .before .pre .1 .1)
+  forward-returns c = none-ranked false (c .if1 .taken) (c .before .before .before .pre .1 .1)
 
   forward-rank-within-requires : forward-lts.Need-rank-within-requires (forward-calls t) (forward-at t) forward.Post
   forward-rank-within-requires c κs =
@@ -148,7 +150,7 @@ module _ (t : ℕ) where
 -- the backward reading
 module _ (t : ℕ) where
   backward-returns : backward-lts.Need-returns (backward-calls t) (backward-at t) backward.Post
-  backward-returns c = none-placed true (c .if1 .taken) (c .before .before .before .pre .1 .1)
+  backward-returns c = none-ranked true (c .if1 .taken) (c .before .before .before .pre .1 .1)
 
   backward-rank-within-requires : backward-lts.Need-rank-within-requires (backward-calls t) (backward-at t) backward.Post
   backward-rank-within-requires c κs =
@@ -174,7 +176,7 @@ module _ (t : ℕ) where
   backward-returns-2 : backward-lts.Need-returns-2 (backward-calls t) (backward-at t) backward.Post
   backward-returns-2 c =
       let w = c .before .rank-within .ensures in
-      turned w (omega (arith, total c, w .below))
+      turned-round w (omega (arith, total c, w .below))
 
 pub +rank-backward+rank-forward+rank-within-spec : {M : Type 1} → statement M
 +rank-backward+rank-forward+rank-within-spec =
