@@ -65,6 +65,12 @@ fn main() {
         let theirs = nanoseconds(|i| drop(black_box(reference.explain(black_box(&made[i]), &mut levels))));
         line("explain_into", n, ours, theirs);
 
+        let mut pairs = [0u8; 38];
+        let to = |i: usize| black_box(&made[(i + 1) % PLACES]);
+        let ours = nanoseconds(|i| drop(black_box(osierdrum::exchanges_into(black_box(&made[i]), to(i), &mut pairs))));
+        let theirs = nanoseconds(|i| drop(black_box(reference.exchanges(black_box(&made[i]), to(i), &mut pairs))));
+        line("exchanges_into", n, ours, theirs);
+
         let m = count.min(1000);
         let mut page = vec![0u8; m as usize * size];
         let first: Vec<u64> = places.iter().map(|&place| place.min(count - m)).collect();

@@ -6,8 +6,9 @@
  * on, k is 1 to n.
  *
  * Refusals: 0 none; 1 n is more than 20; 2 k is not 1 to n, or with n = 0 not 0; 3 place >= c(n,k); 4 m is not 1 to 1000,
- * or more rows than are left; 5 a written slice has not the length asked for; 6 a value or an entry out of range; 7 a
- * value twice; 12 fewer levels lent than the permutation has values. */
+ * or more rows than are left; 5 a written slice has not the length asked for, two permutations have unequal lengths, or
+ * the pairs do not fit; 6 a value or an entry out of range; 7 a value twice; 12 fewer levels lent than the permutation
+ * has values. */
 #ifndef OSIERDRUM_H
 #define OSIERDRUM_H
 
@@ -22,6 +23,7 @@ extern "C" {
 struct osierdrum_Count { uint8_t refusal; uint64_t count; };
 struct osierdrum_Rank { uint8_t refusal; uint64_t k; uint64_t place; };
 struct osierdrum_Explanation { uint8_t refusal; uint64_t k; uint64_t place; };
+struct osierdrum_Exchanges { uint8_t refusal; uint64_t count; uint64_t written; };
 
 /* One size's part of an explanation: the letter 'a' to 'e' of the relation that gives the list at that size, whether the
  * list is read backward, the number from 0 in written order of the block that holds the permutation, and how many
@@ -52,6 +54,15 @@ uint8_t osierdrum_rows(uint64_t n, uint64_t k, uint64_t place, uint64_t m, uint6
  * not bytes. Refusals 1, 6, 7, 12. The two slices do not overlap. */
 struct osierdrum_Explanation osierdrum_explain(const uint8_t *s, size_t s_len,
                                                struct osierdrum_Level *levels, size_t levels_len);
+
+/* The exchanges that turn one permutation into another: pairs of positions whose values are exchanged, one pair after
+ * another, two bytes a pair, to the front of out; the bytes after them stay. No other list of pairs with that effect is
+ * shorter. With p the transposition array of the permutation u that has from(u(i)) = to(i), the pairs are p(i), i for
+ * each i, rising, where p(i) is not i. count is the number of pairs, n less the cycles of u and so at most 19; written is
+ * the number of bytes, 2 * count. Refusals 1 for either, 5 for unequal lengths, 6 for either, 7 for either, 5 for an out
+ * shorter than 2 * count. out overlaps neither of the others. */
+struct osierdrum_Exchanges osierdrum_exchanges(const uint8_t *from, size_t from_len, const uint8_t *to, size_t to_len,
+                                               uint8_t *out, size_t out_len);
 
 #ifdef __cplusplus
 }

@@ -23,6 +23,13 @@ pub struct Explanation {
     pub place: u64,
 }
 
+#[repr(C)]
+pub struct Exchanges {
+    pub refusal: u8,
+    pub count: u64,
+    pub written: u64,
+}
+
 extern "C" {
     pub fn osierdrum_count(n: u64, k: u64) -> Count;
     pub fn osierdrum_unrank(n: u64, k: u64, place: u64, out: *mut u8, out_len: usize) -> u8;
@@ -31,4 +38,12 @@ extern "C" {
     pub fn osierdrum_from_array(a: *const u8, a_len: usize, out: *mut u8, out_len: usize) -> u8;
     pub fn osierdrum_rows(n: u64, k: u64, place: u64, m: u64, o: u64, buf: *mut u8, buf_len: usize) -> u8;
     pub fn osierdrum_explain(s: *const u8, s_len: usize, levels: *mut Level, levels_len: usize) -> Explanation;
+    pub fn osierdrum_exchanges(
+        from: *const u8,
+        from_len: usize,
+        to: *const u8,
+        to_len: usize,
+        out: *mut u8,
+        out_len: usize,
+    ) -> Exchanges;
 }

@@ -44,7 +44,8 @@ pub enum Refusal {
     Place = 3,
     /// 4: the number of rows is not 1 to 1,000, or more than are left from the place on.
     Rows = 4,
-    /// 5: a written slice has not the length that is asked for, or the rows do not fit behind the offset.
+    /// 5: a written slice has not the length that is asked for, the rows do not fit behind the offset, two permutations
+    /// have unequal lengths, or the pairs do not fit.
     Lent = 5,
     /// 6: a value is not 1 to n, or entry i of an array is not 1 to i.
     Value = 6,
@@ -79,7 +80,7 @@ impl fmt::Display for Refusal {
             Refusal::Cycles => "k is not 1 to n, or with n = 0 not 0",
             Refusal::Place => "the place is past the end of the list",
             Refusal::Rows => "the number of rows is not 1 to 1000, or more than are left",
-            Refusal::Lent => "a lent slice has not the length that is asked for",
+            Refusal::Lent => "a lent slice has not the length that is asked for, or two permutations differ in length",
             Refusal::Value => "a value or an entry is out of range",
             Refusal::Twice => "a value occurs twice",
             Refusal::Levels => "fewer levels were lent than the permutation has values",
@@ -149,6 +150,22 @@ pub struct Explanation {
     pub place: u64,
     /// The levels, size n first; the blocks, followed downward from n and k, lead to this permutation and no other.
     pub levels: Vec<Level>,
+}
+
+/// How many pairs [`exchanges_into`] found, and the bytes that they take.
+///
+/// ```
+/// let mut pairs = [0; 38]; // room for every n
+/// let made = osierdrum::exchanges_into(&[3, 1, 4, 2, 5], &[3, 5, 1, 2, 4], &mut pairs)?;
+/// assert_eq!((made.count, made.written), (2, 4));
+/// # Ok::<(), osierdrum::Refusal>(())
+/// ```
+#[derive(Clone, Copy, Debug, PartialEq, Eq, Hash)]
+pub struct Exchanges {
+    /// The number of pairs: n less the cycles of the permutation that carries the first to the second.
+    pub count: u64,
+    /// The number of bytes written, two a pair.
+    pub written: u64,
 }
 
 /// c(n,k): how many permutations of n have exactly k cycles, which is the length of S(n,k).
@@ -281,4 +298,54 @@ pub fn explain_into(s: &[u8], levels: &mut [Level]) -> Result<Rank, Refusal> {
     // layout.
     let answer = unsafe { ffi::osierdrum_explain(s.as_ptr(), s.len(), levels.as_mut_ptr(), levels.len()) };
     Refusal::checked(answer.refusal).map(|()| Rank { k: answer.k, place: answer.place })
+}
+
+/// The exchanges that turn the permutation `from` into the permutation `to`: pairs of positions whose values are
+/// exchanged, one pair after another; n is the length of either. No other list of pairs with that effect is shorter, and
+/// equal permutations give none.
+///
+/// The permutation u that, as a product on the right, carries the first to the second has from(u(i)) = to(i) for each i.
+/// With p its transposition array, as [`to_array`] writes it, the pairs are p(i), i for each i, rising, where p(i) ≠ i.
+/// Their number is n less the cycles of u, and so at most 19.
+///
+/// Refusals, in this order: [`Refusal::Size`] for either, [`Refusal::Lent`] for unequal lengths, [`Refusal::Value`] for
+/// either, [`Refusal::Twice`] for either.
+///
+/// ```
+/// let (from, to) = ([3, 1, 4, 2, 5], [5, 4, 3, 2, 1]);
+/// let pairs = osierdrum::exchanges(&from, &to)?;
+/// assert_eq!(pairs, [[1, 2], [2, 3], [1, 5]]);
+/// let mut row = from;
+/// for [a, b] in pairs {
+///     row.swap(usize::from(a) - 1, usize::from(b) - 1);
+/// }
+/// assert_eq!(row, to);
+/// # Ok::<(), osierdrum::Refusal>(())
+/// ```
+pub fn exchanges(from: &[u8], to: &[u8]) -> Result<Vec<[u8; 2]>, Refusal> {
+    // room for 19 pairs, so that it never is too short
+    let mut bytes = [0; 2 * 19];
+    let Exchanges { written, .. } = exchanges_into(from, to, &mut bytes)?;
+    Ok(bytes[..written as usize].chunks_exact(2).map(|pair| [pair[0], pair[1]]).collect())
+}
+
+/// As [`exchanges`], with the pairs written to the front of `out`, two bytes a pair; the bytes after them stay.
+///
+/// Refusals, in this order: [`Refusal::Size`] for either, [`Refusal::Lent`] for unequal lengths, [`Refusal::Value`] for
+/// either, [`Refusal::Twice`] for either, [`Refusal::Lent`] for an `out` that is shorter than the pairs.
+///
+/// ```
+/// use osierdrum::{exchanges_into, Exchanges, Refusal};
+/// let mut bytes = [0; 5];
+/// assert_eq!(exchanges_into(&[3, 1, 2], &[1, 2, 3], &mut bytes), Ok(Exchanges { count: 2, written: 4 }));
+/// assert_eq!(bytes, [1, 2, 2, 3, 0]); // the last as it was
+/// assert_eq!(exchanges_into(&[3, 1, 2], &[1, 2, 3], &mut bytes[..3]), Err(Refusal::Lent));
+/// assert_eq!(exchanges_into(&[3, 1, 2], &[1, 2], &mut bytes), Err(Refusal::Lent));
+/// ```
+pub fn exchanges_into(from: &[u8], to: &[u8], out: &mut [u8]) -> Result<Exchanges, Refusal> {
+    // SAFETY: each pointer and length are those of one slice, and the written one is ours alone.
+    let answer = unsafe {
+        ffi::osierdrum_exchanges(from.as_ptr(), from.len(), to.as_ptr(), to.len(), out.as_mut_ptr(), out.len())
+    };
+    Refusal::checked(answer.refusal).map(|()| Exchanges { count: answer.count, written: answer.written })
 }

@@ -1,5 +1,5 @@
 //! Numbers, slices and offsets that nobody should hand in, in every call, with guard bytes around what is lent: the refusal is document 01's, and
-//! no other byte changes. The same for `explain` stands in `explain.rs`.
+//! no other byte changes. The same for `explain` stands in `explain.rs`, and for `exchanges` in `exchanges.rs`.
 
 mod reference;
 

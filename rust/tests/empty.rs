@@ -2,11 +2,12 @@
 //! reference; the other tests compare n = 0 with the reference among the rest.
 
 use osierdrum::{
-    count, explain, explain_into, from_array, rank, rows, to_array, unrank, Explanation, Level, Rank, Refusal,
+    count, exchanges, exchanges_into, explain, explain_into, from_array, rank, rows, to_array, unrank, Exchanges,
+    Explanation, Level, Rank, Refusal,
 };
 
 /// A call on a lent slice of `size` bytes, with guards: its result. No byte changes, whether it is served or refused.
-fn lent(size: usize, call: impl Fn(&mut [u8]) -> Result<(), Refusal>) -> Result<(), Refusal> {
+fn lent<T>(size: usize, call: impl Fn(&mut [u8]) -> Result<T, Refusal>) -> Result<T, Refusal> {
     let mut buffer = [7u8; 12];
     let result = call(&mut buffer[5..5 + size]);
     assert_eq!(buffer, [7; 12]);
@@ -70,6 +71,23 @@ fn arrays() {
         let mut out = [7];
         assert_eq!(call(&[1], &mut out), Ok(()));
         assert_eq!(out, [1]);
+    }
+}
+
+#[test]
+fn pairs_from_nothing_to_nothing() {
+    assert_eq!(exchanges(&[], &[]), Ok(vec![]));
+    for size in [0, 1, 2] {
+        for s in [&[][..], &[1]] {
+            assert_eq!(lent(size, |out| exchanges_into(s, s, out)), Ok(Exchanges { count: 0, written: 0 }));
+        }
+        for s in [[0], [1], [2]] {
+            assert_eq!(lent(size, |out| exchanges_into(&[], &s, out)), Err(Refusal::Lent));
+            assert_eq!(lent(size, |out| exchanges_into(&s, &[], out)), Err(Refusal::Lent));
+        }
+        assert_eq!(lent(size, |out| exchanges_into(&[], &[0; 21], out)), Err(Refusal::Size));
+        assert_eq!(lent(size, |out| exchanges_into(&[0; 21], &[], out)), Err(Refusal::Size));
+        assert_eq!(lent(size, |out| exchanges_into(&[1], &[0], out)), Err(Refusal::Value));
     }
 }
 

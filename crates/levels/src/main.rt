@@ -3,20 +3,6 @@
 use explain::Level;
 use libc::STDIN_FILENO;
 
-// A value in base ten.
-fn print_value(value: u8) {
-    print::number(value as u64);
-}
-
-// Values in base ten, spaces between.
-fn print_values(s: &[u8]) {
-    if s.len() == 0 {
-        return;
-    }
-    print_value(s[0]);
-    print::bytes(&s[1..]);
-}
-
 // A row.
 fn print_level(row: Level) {
     let letter = [row.letter];
@@ -52,7 +38,7 @@ fn print_levels(rows: [Level; 20], count: usize) {
 fn print_explained(s: &[u8]) {
     let explained = explain::explain(s, s.len());
     let rows = explained.rows;
-    print_values(s);
+    print::values(s);
     print::text(b" | ");
     print::number(explained.answer.k);
     print::text(b" ");

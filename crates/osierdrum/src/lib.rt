@@ -1,10 +1,12 @@
 // The library that the Rust server links: each call as `extern "C"`, thin over the crate that does the work, with its full contract again.
+use exchanges::Exchanges;
 use explain::Explanation;
 use explain::Level;
 ghost use mathlib.Core.Path.{_≡_};
 ghost use Rattle.perm.specs.Checks.{ToArray, FromArray};
 ghost use Rattle.rank.specs.Place.{Unranked, Ranked, RowsWritten};
 ghost use Rattle.explain.specs.Explain.{Explains};
+ghost use Rattle.exchanges.specs.Between.{Exchanged};
 ghost use Rattle.osierdrum.specs.Exports.{counted, standing};
 
 // A count, or a refusal with 0.
@@ -92,4 +94,13 @@ pub extern "C" fn osierdrum_explain(s: &[u8], rows: &mut [Level]) -> Explanation
         i += 1;
     }
     explained.answer
+}
+
+// The pairs of positions whose values are exchanged, one pair after another, to turn `from` into `to`, two bytes a pair, to the front of `out`. Refusals 1 for either,
+// 5 for unequal lengths, 6 for either, 7 for either, and last 5 for a buffer shorter than the pairs.
+#[no_mangle]
+pub extern "C" fn osierdrum_exchanges(from: &[u8], to: &[u8], out: &mut [u8]) -> Exchanges
+    ensures { λ r. ⌜ Exchanged (now (from .entry)) (now (to .entry)) (now (out .entry)) r (now (out .exit)) ⌝ }
+{
+    exchanges::between(from, to, out)
 }

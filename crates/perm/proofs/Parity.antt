@@ -1,4 +1,5 @@
--- A product s·⟨a,b⟩ of a permutation with an exchange of two positions is a permutation, and turns the parity of the number of cycles. Assumes nothing.
+-- A product s·⟨a,b⟩ of a permutation with an exchange of two positions is a permutation, and has one cycle more or one less: it turns the parity of the number of
+-- cycles. Assumes nothing.
 use mathlib.Core.Path.{_≡_, _∙_, sym, ap₂}
 use mathlib.Core.Logic.{_≢_}
 use Prim.Native.Nat.{ℕ, zero, suc, _+_, _-_, _%_, _≤_}
@@ -85,10 +86,11 @@ exchange-insert-undone {m} γ a e h k =
     exchange-top a (at γ a) (put γ a (suc m)) (length-set γ (a - 1) (suc m) ∙ e) h k
     ∙ ap₂ snoc (set-set γ (a - 1) (suc m) (at γ a) ∙ set-getD γ (a - 1) 0) (at-put-same γ a (suc m) h (omega arith))
 
--- t is a permutation of n, and of the numbers of cycles of s and t one is odd and the other even
+-- t is a permutation of n, of the numbers of cycles of s and t one is odd and the other even, and neither is above the other by more than one
 record Turned (n : ℕ) (s t : List ℕ) : Type 0 where
   permutation : IsPermutation n t
   parity : (cycles s + cycles t) % 2 ≡ 1
+  near : (cycles s ≤ suc (cycles t)) × (cycles t ≤ suc (cycles s))
 
 -- every exchange of two different positions in a permutation of n turns the parity
 abbrev Turns : ℕ → Type 0
@@ -97,21 +99,34 @@ Turns n = (s : List ℕ) → IsPermutation n s → (a b : ℕ) → 1 ≤ a → a
 module _ {m : ℕ} {γ : List ℕ} (g : IsPermutation m γ) where
   -- E keeps what an exchange of γ turns
   turned-extend : {δ : List ℕ} → Turned m γ δ → Turned (suc m) (extend (suc m) γ) (extend (suc m) δ)
-  turned-extend d = record { permutation = extend-permutation (d .permutation); parity = omega (arith, cycles-extend g, cycles-extend (d .permutation), d .parity) }
+  turned-extend d =
+      let x = cycles-extend g in
+      let y = cycles-extend (d .permutation) in
+      record {
+        permutation = extend-permutation (d .permutation);
+        parity = omega (arith, x, y, d .parity);
+        near = (omega (arith, x, y, d .near .0), omega (arith, x, y, d .near .1));
+      }
 
   -- and so does I
   turned-insert : {δ : List ℕ} (i j : ℕ) → 1 ≤ i → i ≤ m → 1 ≤ j → j ≤ m → Turned m γ δ → Turned (suc m) (insert (suc m) i γ) (insert (suc m) j δ)
   turned-insert i j hi ki hj kj d = record {
     permutation = insert-permutation j hj kj (d .permutation);
     parity = rw (cycles-insert i hi ki g, cycles-insert j hj kj (d .permutation)) (d .parity);
+    near = rw (cycles-insert i hi ki g, cycles-insert j hj kj (d .permutation)) (d .near);
   }
 
   -- I in place of E turns the parity, and so does E in place of I
   turned-inserted : (i : ℕ) → 1 ≤ i → i ≤ m → Turned (suc m) (extend (suc m) γ) (insert (suc m) i γ)
-  turned-inserted i h k = record { permutation = insert-permutation i h k g; parity = omega (arith, cycles-extend g, cycles-insert i h k g) }
+  turned-inserted i h k =
+      let x = cycles-extend g in
+      let y = cycles-insert i h k g in
+      record { permutation = insert-permutation i h k g; parity = omega (arith, x, y); near = (omega (arith, x, y), omega (arith, x, y)) }
 
   turned-undone : (i : ℕ) → 1 ≤ i → i ≤ m → Turned (suc m) (insert (suc m) i γ) (extend (suc m) γ)
-  turned-undone i h k = record { permutation = extend-permutation g; parity = omega (arith, cycles-extend g, cycles-insert i h k g) }
+  turned-undone i h k =
+      let d = turned-inserted i h k in
+      record { permutation = extend-permutation g; parity = omega (arith, d .parity); near = (d .near .1, d .near .0) }
 
 -- an exchange that leaves the last position
 turned-within : {m : ℕ} {s : List ℕ} → Turns m → Split m s → (a b : ℕ) → 1 ≤ a → a ≤ m → 1 ≤ b → b ≤ m → a ≢ b → Turned (suc m) s (exchange a b s)
@@ -153,3 +168,7 @@ module _ {n : ℕ} {s : List ℕ} (p : IsPermutation n s) (a b : ℕ) (ha : 1 �
   -- and turns the parity of the number of cycles
   pub exchange-parity : (cycles s + cycles (exchange a b s)) % 2 ≡ 1
   exchange-parity = turns n s p a b ha ka hb kb d .parity
+
+  -- by no more than one: with the parity, it has one cycle more or one less
+  pub exchange-near : (cycles s ≤ suc (cycles (exchange a b s))) × (cycles (exchange a b s) ≤ suc (cycles s))
+  exchange-near = turns n s p a b ha ka hb kb d .near

@@ -25,3 +25,17 @@ pub fn bytes(list: &[u8]) {
         i += 1;
     }
 }
+
+// A byte's value in base ten.
+fn value(byte: u8) {
+    number(byte as u64);
+}
+
+// The bytes' values, spaces between.
+pub fn values(s: &[u8]) {
+    if s.len() == 0 {
+        return;
+    }
+    value(s[0]);
+    bytes(&s[1..]);
+}

@@ -26,6 +26,15 @@ static int empty_list(void) {
     if (memcmp(levels, before, sizeof levels) != 0) return 41;
 
     for (size_t len = 0; len <= 1; len++) {
+        struct osierdrum_Exchanges made = osierdrum_exchanges(&byte, 0, &byte, 0, lent + 1, len);
+        if (made.refusal != 0 || made.count != 0 || made.written != 0) return 42;
+        made = osierdrum_exchanges(&byte, 0, &byte, 1, lent + 1, len);
+        if (made.refusal != 5 || made.count != 0 || made.written != 0) return 43;
+        made = osierdrum_exchanges(&byte, 1, &byte, 1, lent + 1, len);
+        if (made.refusal != 6 || made.count != 0 || made.written != 0) return 44;
+    }
+
+    for (size_t len = 0; len <= 1; len++) {
         uint8_t longer = len == 0 ? 0 : 5;
         if (osierdrum_unrank(0, 0, 0, lent + 1, len) != longer) return 25;
         if (osierdrum_unrank(0, 0, 1, lent + 1, len) != 3) return 26;
@@ -77,6 +86,27 @@ static int explanation(void) {
     return memcmp(&levels[6], &before[6], sizeof levels[6]) == 0 ? 0 : 59;
 }
 
+static int exchanges(void) {
+    const uint8_t from[5] = {3, 1, 4, 2, 5}, to[5] = {5, 4, 3, 2, 1}, twice[5] = {3, 1, 4, 2, 4}, wide[21] = {0};
+    uint8_t pairs[9] = {99, 99, 99, 99, 99, 99, 99, 99, 99};
+
+    struct osierdrum_Exchanges made = osierdrum_exchanges(from, sizeof from, to, sizeof to, pairs + 1, 5);
+    if (made.refusal != 5 || made.count != 0 || made.written != 0) return 61;
+    made = osierdrum_exchanges(from, sizeof from, twice, sizeof twice, pairs + 1, 5);
+    if (made.refusal != 7 || made.count != 0 || made.written != 0) return 62;
+    made = osierdrum_exchanges(from, sizeof from, twice, 4, pairs + 1, 7);
+    if (made.refusal != 5 || made.count != 0 || made.written != 0) return 63;
+    made = osierdrum_exchanges(wide, sizeof wide, to, sizeof to, pairs + 1, 7);
+    if (made.refusal != 1 || made.count != 0 || made.written != 0) return 64;
+    made = osierdrum_exchanges(from, sizeof from, from, sizeof from, pairs + 1, 0);
+    if (made.refusal != 0 || made.count != 0 || made.written != 0) return 65;
+    if (memcmp(pairs, (const uint8_t[]){99, 99, 99, 99, 99, 99, 99, 99, 99}, 9) != 0) return 66;
+
+    made = osierdrum_exchanges(from, sizeof from, to, sizeof to, pairs + 1, 7);
+    if (made.refusal != 0 || made.count != 3 || made.written != 6) return 67;
+    return memcmp(pairs, (const uint8_t[]){99, 1, 2, 2, 3, 1, 5, 99, 99}, 9) == 0 ? 0 : 68;
+}
+
 int main(void) {
     struct osierdrum_Count count = osierdrum_count(5, 2);
     if (count.refusal != 0 || count.count != 50) return 1;
@@ -100,5 +130,6 @@ int main(void) {
     if (memcmp(page, (const uint8_t[]){9, 3, 1, 4, 2, 5, 3, 5, 1, 2, 4, 9}, 12) != 0) return 11;
     if (osierdrum_rows(5, 2, 38, 2, 3, page, sizeof page) != 5) return 12;
     int wrong = explanation();
+    if (wrong == 0) wrong = exchanges();
     return wrong != 0 ? wrong : empty_list();
 }

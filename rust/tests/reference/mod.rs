@@ -361,6 +361,37 @@ impl Reference {
         Ok(())
     }
 
+    /// The number of pairs and of bytes. Neither the carrying permutation nor its array is made: `to` is turned back into `from`, from the last
+    /// position down, each value fetched from where it stands by then, which is no later position. The same pairs, rising, turn `from` into `to`.
+    pub fn exchanges(&self, from: &[u8], to: &[u8], out: &mut [u8]) -> Result<(u64, u64), u8> {
+        if from.len().max(to.len()) > MOST {
+            return Err(1);
+        }
+        if from.len() != to.len() {
+            return Err(5);
+        }
+        // 6 of either comes before 7 of either
+        let refusals = [from, to].into_iter().filter_map(|s| Self::permutation(s).err());
+        if let Some(refusal) = refusals.min() {
+            return Err(refusal);
+        }
+        let mut row = [0; MOST];
+        row[..to.len()].copy_from_slice(to);
+        let mut pairs = [[0; 2]; MOST];
+        let mut left = MOST;
+        for (i, value) in from.iter().enumerate().rev() {
+            let stands = row.iter().position(|other| other == value).expect("both hold the same values");
+            if stands != i {
+                row.swap(stands, i);
+                left -= 1;
+                pairs[left] = [stands as u8 + 1, i as u8 + 1];
+            }
+        }
+        let bytes = pairs[left..].as_flattened();
+        out.get_mut(..bytes.len()).ok_or(5)?.copy_from_slice(bytes);
+        Ok(((MOST - left) as u64, bytes.len() as u64))
+    }
+
     pub fn rows(&self, n: u64, k: u64, place: u64, m: u64, o: u64, buf: &mut [u8]) -> Result<(), u8> {
         let (n, k) = self.numbers(n, k)?;
         if place >= self.c[n][k] {
@@ -399,12 +430,18 @@ impl Random {
     }
 }
 
-/// A list of bytes that is near a permutation, an array, or neither.
-pub fn damaged(random: &mut Random, n: usize) -> Vec<u8> {
+/// A permutation.
+pub fn shuffled(random: &mut Random, n: usize) -> Vec<u8> {
     let mut s: Vec<u8> = (1..=n).map(|i| i as u8).collect();
     for i in (1..n).rev() {
         s.swap(i, random.below(i as u64 + 1) as usize);
     }
+    s
+}
+
+/// A list of bytes that is near a permutation, an array, or neither.
+pub fn damaged(random: &mut Random, n: usize) -> Vec<u8> {
+    let mut s = shuffled(random, n);
     match random.below(4) {
         0 => {}
         1 if n > 0 => s[random.below(n as u64) as usize] = random.next() as u8,

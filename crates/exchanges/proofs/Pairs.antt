@@ -1,0 +1,105 @@
+-- The pairs of an array one after another, and their bytes in the front of a buffer: what the loops that count and write them keep. Assumes nothing.
+use mathlib.Core.Path.{_≡_, refl, sym, ap, ap₂, _∙_}
+use Prim.Native.Nat.{ℕ, zero, suc, _+_, _*_, _-_, _≤_, _<_}
+use native.Mathlib.Numerals.{add-one}
+use native.Mathlib.Nat.{add-zero, add-suc, le-refl}
+use native.Mathlib.Omega.{arith}
+use mathlib.Core.Bool.{Bool, true, false, not, cond}
+use mathlib.Core.List.{List, [], _∷_, _++_, append-nil}
+use lib.Dec.{eqb}
+use lib.ListN.{length, getD, take, drop, set, length-append, length-drop}
+use lib.Seq.{sets-eq, take-at, drop-append-add, drop-drop}
+use borrow.Author.Tests.{eq-eqb, ne-eqb}
+use Rattle.perm.specs.Lists.{one, tally, range, positions}
+use Rattle.perm.specs.Permutation.{at}
+use Rattle.perm.proofs.Tally.{tally-positions, tally-not, length-range}
+use Rattle.perm.proofs.Values.{at-suc}
+use Rattle.exchanges.specs.Pairs.{Pair, pairsTo, bytesOf, front, pairsIn}
+
+-- what entry i of an array gives: no pair if it is i, and else one
+abbrev pub given : ℕ → ℕ → List Pair
+given p i = cond (eqb p i) [] ((p, i) ∷ [])
+
+-- a fixed entry gives no pair
+pub pairs-fixed : (p : List ℕ) (i : ℕ) → getD p i 0 ≡ i + 1 → pairsTo p (i + 1) ≡ pairsTo p i
+unfolding pairsTo
+pairs-fixed p i e = rw (add-one, at-suc p i, eq-eqb (getD p i 0) (suc i) (rw add-one at e)) (append-nil (pairsTo p i))
+
+-- any other gives one
+pub pairs-moved : (p : List ℕ) (i : ℕ) → (getD p i 0 ≡ i + 1 → ⊥) → pairsTo p (i + 1) ≡ pairsTo p i ++ ((getD p i 0, i + 1) ∷ [])
+unfolding pairsTo
+pairs-moved p i d = rw (add-one, at-suc p i, ne-eqb (getD p i 0) (suc i) (rw add-one at d)) refl
+
+-- and is one more
+pub length-moved : (p : List ℕ) (i : ℕ) → (getD p i 0 ≡ i + 1 → ⊥) → length (pairsTo p (i + 1)) ≡ length (pairsTo p i) + 1
+length-moved p i d = ap length (pairs-moved p i d) ∙ length-append (pairsTo p i) ((getD p i 0, i + 1) ∷ [])
+
+-- so there is a pair for each entry that is not fixed
+pub length-pairs : (p : List ℕ) (m : ℕ) → length (pairsTo p m) ≡ tally (λ i. not (eqb (at p i) i)) (positions m)
+unfolding pairsTo tally range
+length-pairs p zero = refl
+length-pairs p (suc m) =
+    length-append (pairsTo p m) (given (at p (suc m)) (suc m))
+    ∙ ap₂ _+_ (length-pairs p m) (by-test (eqb (at p (suc m)) (suc m)))
+    ∙ sym (tally-positions (λ i. not (eqb (at p i) i)) m)
+  where
+    by-test : (b : Bool) → length {A = Pair} (cond b [] ((at p (suc m), suc m) ∷ [])) ≡ one (not b)
+    by-test true = refl
+    by-test false = refl
+
+-- with those that are, as many as all
+pub pairs-number : (p : List ℕ) (m : ℕ) → length (pairsTo p m) + tally (λ i. eqb (at p i) i) (positions m) ≡ m
+pairs-number p m = omega (arith, length-pairs p m, tally-not (λ i. eqb (at p i) i) (positions m), length-range 1 m)
+
+-- and no fewer with more entries
+pairs-more : (p : List ℕ) (m d : ℕ) → length (pairsTo p m) ≤ length (pairsTo p (m + d))
+unfolding pairsTo
+pairs-more p m zero = rw (add-zero m) (le-refl (length (pairsTo p m)))
+pairs-more p m (suc d) =
+    rw (add-suc m d)
+    (omega (arith, pairs-more p m d, length-append (pairsTo p (m + d)) (given (at p (suc (m + d))) (suc (m + d)))))
+
+-- so a pair is one of all
+pub pairs-room : (p : List ℕ) (i n : ℕ) → i < n → (getD p i 0 ≡ i + 1 → ⊥) → length (pairsTo p i) + 1 ≤ length (pairsTo p n)
+pairs-room p i n h d =
+    let e : i + 1 + (n - (i + 1)) ≡ n = omega arith in
+    omega (arith, length-moved p i d, pairs-more p (i + 1) (n - (i + 1)), ap (λ (m : ℕ). length (pairsTo p m)) e)
+
+bytes-append : (x y : List Pair) → bytesOf (x ++ y) ≡ bytesOf x ++ bytesOf y
+unfolding bytesOf
+bytes-append [] y = refl
+bytes-append (a ∷ x) y = ap (λ (l : List ℕ). a .0 ∷ a .1 ∷ l) (bytes-append x y)
+
+-- two bytes a pair
+length-bytes : (x : List Pair) → length (bytesOf x) ≡ 2 * length x
+unfolding bytesOf
+length-bytes [] = refl
+length-bytes (a ∷ x) = omega (arith, length-bytes x)
+
+-- bytes of pairs, read as pairs
+pub pairs-bytes : (x : List Pair) → pairsIn (bytesOf x) ≡ x
+unfolding bytesOf pairsIn
+pairs-bytes [] = refl
+pairs-bytes (a ∷ x) = ap (λ (l : List Pair). a ∷ l) (pairs-bytes x)
+
+-- the front of a buffer
+module _ (x : List Pair) (before : List ℕ) where
+  -- holds the pairs
+  pub take-front : take (2 * length x) (front x before) ≡ bytesOf x
+  take-front = take-at (bytesOf x) (drop (2 * length x) before) (2 * length x) (length-bytes x)
+
+  -- and the buffer is as long as it was
+  pub length-front : 2 * length x ≤ length before → length (front x before) ≡ length before
+  length-front h = rw (length-append (bytesOf x) (drop (2 * length x) before), length-drop (2 * length x) before, length-bytes x) (omega arith)
+
+  -- two bytes more
+  pub front-step : (a b : ℕ) → 2 * suc (length x) ≤ length before
+      → set (set (front x before) (2 * length x) a) (2 * length x + 1) b ≡ front (x ++ ((a, b) ∷ [])) before
+  unfolding bytesOf
+  front-step a b h =
+      let l = 2 * length x in
+      let after : drop (l + 2) (front x before) ≡ drop (l + 2) before =
+      rw (← length-bytes x, drop-append-add (bytesOf x) (drop (length (bytesOf x)) before) 2, drop-drop 2 (length (bytesOf x)) before) in
+      let more : l + 2 ≡ 2 * length (x ++ ((a, b) ∷ [])) = omega (arith, length-append x ((a, b) ∷ [])) in
+      rw (add-one, sets-eq (a ∷ b ∷ []) (front x before) l (omega (arith, length-front (omega arith))), take-front, after)
+      (ap₂ (λ (u v : List ℕ). u ++ v) (sym (bytes-append x ((a, b) ∷ []))) (ap (λ (k : ℕ). drop k before) more))

@@ -1,0 +1,87 @@
+-- `exchanges::carry` meets its contract. The loop's invariant: the first i values are those of the permutation that carries one to the other. Assumes nothing.
+use Prim.Native.Nat.{_≤_, _-_}
+use native.Mathlib.Omega.{arith}
+use mathlib.Core.Path.{_≡_, refl, sym, _∙_}
+use borrow.Author.Needs.{needs}
+use lib.ListN.{length, take, length-set}
+use lib.Seq.{take-all}
+use Rattle.perm.proofs.Steps.{value-bound}
+use Rattle.exchanges.specs.Carrying.{carrying}
+use Rattle.exchanges.proofs.Carrying.{index-found, carried-step, length-carrying}
+use Rattle.exchanges.proofs.carry.Statement.{statement}
+use Rattle.exchanges.proofs.carry.Tie as tie
+
+abbrev Inv-loop : tie.InvT-loop
+Inv-loop from to index carrier₀ i₀ carrier i = (i ≤ length to) × (length carrier ≡ 20) × (take i carrier ≡ take i (carrying from to))
+
+abbrev μ-loop : tie.MeasureT-loop
+μ-loop from to index carrier₀ i₀ carrier i = length to - i
+
+indices-requires : tie.Need-indices-requires Inv-loop μ-loop
+indices-requires c κs = let pre = c .before .before .pre in (pre .0, pre .1)
+
+loop-holds : tie.Need-loop-holds Inv-loop μ-loop
+loop-holds c = (omega arith, refl, refl)
+
+shared-slice-read-wide : tie.Need-shared-slice-read-wide Inv-loop μ-loop
+shared-slice-read-wide c = omega arith
+
+wide-requires : tie.Need-wide-requires Inv-loop μ-loop
+wide-requires c κs = search needs
+
+array-read-carrier : tie.Need-array-read-carrier Inv-loop μ-loop
+array-read-carrier c =
+    let b = c .before .before .before in
+    let pre = b .before .before .before .before .pre in
+    rw (c .wide .ensures) (omega (arith, pre .0, value-bound (pre .2) (b .loop .i) (omega (arith, pre .2 .size))))
+
+add-carrier : tie.Need-add-carrier Inv-loop μ-loop
+add-carrier c =
+    let b = c .before .before .before in
+    let pre = b .before .before .before .before .pre in
+    omega (arith, pre .0, index-found (pre .1) (b .before .indices .result) (b .before .indices .ensures .1) (pre .2) (b .loop .i) _ (omega arith) (c .wide .ensures) .0)
+
+array-write-carrier : tie.Need-array-write-carrier Inv-loop μ-loop
+array-write-carrier c = let pre = c .before .before .before .before .before .before .before .pre in omega (arith, pre .0, pre .2 .size)
+
+add-i : tie.Need-add-i Inv-loop μ-loop
+add-i c = omega arith
+
+loop-less : tie.Need-loop-less Inv-loop μ-loop
+loop-less c = omega arith
+
+loop-again : tie.Need-loop-again Inv-loop μ-loop
+loop-again c =
+    let b = c .before .before .before in
+    let pre = b .before .before .before .before .pre in (
+      omega arith,
+      simp length-set (b .loop .inv .1),
+      carried-step (pre .1) (b .before .indices .result) (b .before .indices .ensures .1) (pre .2) (b .loop .i) _ (omega arith) (c .wide .ensures) (b .loop .carrier) (omega (arith, pre .0, pre .2 .size, b .loop .inv .1)) (b .loop .inv .2),
+    )
+
+returns : tie.Need-returns Inv-loop μ-loop
+returns c =
+    let b = c .before in
+    let pre = b .before .before .before .before .pre in
+    let from = b .before .before .before .before .args .from .now in
+    let to = b .before .before .before .before .args .to .now in
+    let done : b .loop .i ≡ length to = omega arith in
+    (b .loop .inv .1, (rw done at (b .loop .inv .2)) ∙ take-all (length to) (carrying from to) (omega (arith, length-carrying (pre .1) (pre .2), pre .2 .size)))
+
+pub carry-spec : {M : Type 1} → statement M
+carry-spec =
+    tie.close
+    (tie.spec
+    Inv-loop
+    μ-loop
+    indices-requires
+    loop-holds
+    shared-slice-read-wide
+    wide-requires
+    array-read-carrier
+    add-carrier
+    array-write-carrier
+    add-i
+    loop-less
+    loop-again
+    returns)

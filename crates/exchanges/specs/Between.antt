@@ -1,0 +1,43 @@
+-- Document 02, c): the exchanges from one permutation to another, for every input. These are definitions; nothing is assumed.
+use mathlib.Core.Path.{_≡_}
+use Prim.Native.Nat.{ℕ, _*_}
+use mathlib.Core.List.{List}
+use lib.Dec.{ltb}
+use lib.ListN.{length}
+use Rattle.stirling.specs.Refusal.{refuse, _then_}
+use Rattle.stirling.specs.Count.{checkSize}
+use Rattle.perm.specs.Array.{arrayOf}
+use Rattle.perm.specs.Checks.{checkLent, checkValues, checkTwice}
+use Rattle.exchanges.specs.declared.Exchanges.{Exchanges}
+use Rattle.exchanges.specs.Carrying.{carrying}
+use Rattle.exchanges.specs.Pairs.{Pair, pairsOf, front}
+
+-- the pairs from s to t: those of the array of the permutation that carries s to t
+abbrev pub pairsBetween : List ℕ → List ℕ → List Pair
+pairsBetween s t = pairsOf (arrayOf (length s) (carrying s t))
+
+-- the last check 5: a buffer shorter than twice the count
+abbrev pub checkRoom : List ℕ → List ℕ → ℕ → ℕ
+checkRoom s t size = refuse (ltb size (2 * length (pairsBetween s t))) 5
+
+-- the checks in their order: 1 for either, 5 for unequal lengths, 6 for either, 7 for either, and last 5 for the buffer
+abbrev pub checkBetween : List ℕ → List ℕ → ℕ → ℕ
+checkBetween s t size =
+    checkSize (length s)
+    then checkSize (length t)
+    then checkLent (length s) (length t)
+    then checkValues s
+    then checkValues t
+    then checkTwice s
+    then checkTwice t
+    then checkRoom s t size
+
+-- the pairs from s to t in the front of a buffer that held `before` and then holds `after`, with the answer r: their number, and twice it as the number of bytes
+-- written; the bytes after them stay. Or a refusal with zeros, and every byte stays
+pub record Exchanged (s t before : List ℕ) (r : Exchanges) (after : List ℕ) : Type 0 where
+  pub refusal : r .refusal ≡ checkBetween s t (length before)
+  pub count : r .refusal ≡ 0 → r .count ≡ length (pairsBetween s t)
+  pub size : r .refusal ≡ 0 → r .written ≡ 2 * length (pairsBetween s t)
+  pub written : r .refusal ≡ 0 → after ≡ front (pairsBetween s t) before
+  pub zeros : (r .refusal ≡ 0 → ⊥) → (r .count ≡ 0) × (r .written ≡ 0)
+  pub kept : (r .refusal ≡ 0 → ⊥) → after ≡ before

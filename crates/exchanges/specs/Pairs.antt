@@ -1,0 +1,45 @@
+-- Document 02, c): pairs of positions whose values are exchanged, one pair after another. These are definitions; nothing is assumed.
+use Prim.Native.Nat.{ℕ, zero, suc, _*_, _≤_}
+use mathlib.Core.Bool.{cond}
+use mathlib.Core.List.{List, [], _∷_, _++_}
+use lib.Dec.{eqb}
+use lib.ListN.{length, drop}
+use Rattle.perm.specs.Permutation.{at, exchange}
+
+-- two positions
+abbrev pub Pair : Type 0
+Pair = ℕ × ℕ
+
+-- pi, i for each i up to m, rising, where the array p has pi other than i
+unfoldable pub pairsTo : List ℕ → ℕ → List Pair
+pairsTo p zero = []
+pairsTo p (suc m) = pairsTo p m ++ cond (eqb (at p (suc m)) (suc m)) [] ((at p (suc m), suc m) ∷ [])
+
+-- and for each i of the array
+abbrev pub pairsOf : List ℕ → List Pair
+pairsOf p = pairsTo p (length p)
+
+-- the values at the two positions of each pair exchanged, one pair after another from the left
+unfoldable pub exchangeAll : List Pair → List ℕ → List ℕ
+exchangeAll [] s = s
+exchangeAll (x ∷ xs) s = exchangeAll xs (exchange (x .0) (x .1) s)
+
+-- each pair names positions 1 to n; the two may be equal
+unfoldable pub Inside : ℕ → List Pair → Type 0
+Inside n [] = Unit
+Inside n (x ∷ xs) = (1 ≤ x .0) × (x .0 ≤ n) × (1 ≤ x .1) × (x .1 ≤ n) × Inside n xs
+
+-- pairs as two bytes each
+unfoldable pub bytesOf : List Pair → List ℕ
+bytesOf [] = []
+bytesOf (x ∷ xs) = x .0 ∷ x .1 ∷ bytesOf xs
+
+-- the bytes of pairs in the front of a buffer that held `before`; the bytes after them stay
+abbrev pub front : List Pair → List ℕ → List ℕ
+front x before = bytesOf x ++ drop (2 * length x) before
+
+-- bytes read as pairs
+unfoldable pub pairsIn : List ℕ → List Pair
+pairsIn [] = []
+pairsIn (a ∷ []) = []
+pairsIn (a ∷ b ∷ bytes) = (a, b) ∷ pairsIn bytes
