@@ -1,8 +1,8 @@
--- The request's demands 2 and 3 as theorems, and what document 02, b), adds, to be read from top to bottom beside them. Each is a law of a crate below, stated
+-- The request's demands 2 and 3 as theorems, and what document 02, b) and c), add, to be read from top to bottom beside them. Each is a law of a crate below, stated
 -- in full here so that nothing has to be looked up but the definitions in specs/. What demand 1 asks is met by the proofs of the functions themselves
 -- (docs/DEMANDS.md says how). Assumes nothing.
 use mathlib.Core.Path.{_≡_, _∙_, sym}
-use Prim.Native.Nat.{ℕ, suc, _≤_, _<_, _^_}
+use Prim.Native.Nat.{ℕ, suc, _+_, _≤_, _<_, _^_}
 use mathlib.Core.Bool.{Bool, false}
 use mathlib.Core.List.{List, _∷_}
 use lib.Dec.{eqb}
@@ -13,6 +13,7 @@ use Rattle.perm.specs.Lists.{tally, positions}
 use Rattle.perm.specs.Permutation.{IsPermutation, at, distance}
 use Rattle.perm.specs.Cycle.{cycles}
 use Rattle.perm.specs.Array.{IsArray, IsArrayOf, product, position}
+use Rattle.perm.specs.Checks.{checkPermutation}
 use Rattle.perm.proofs.Arrays.{product-permutation, has-array, one-array, cycles-product}
 use Rattle.perm.proofs.Apart as Apart
 use Rattle.gray.specs.Order.{Row, S, letter}
@@ -34,6 +35,13 @@ use Rattle.explain.proofs.Following.{leads-one}
 use Rattle.explain.proofs.Unchanged.{NoChoice, no-choice, at-three}
 use Rattle.explain.proofs.Answered.{adds-up, lead, as-ranked}
 use Rattle.explain.proofs.Cases as Levels
+use Rattle.exchanges.specs.declared.Exchanges.{Exchanges}
+use Rattle.exchanges.specs.Carrying.{Carries, carrying}
+use Rattle.exchanges.specs.Pairs.{Pair, exchangeAll, Inside, pairsIn}
+use Rattle.exchanges.specs.Between.{Exchanged}
+use Rattle.exchanges.proofs.Carrying.{carries, one-carries}
+use Rattle.exchanges.proofs.Answered.{turns, number, least, none}
+use Rattle.exchanges.proofs.Cases as Pairs
 use Rattle.cursor.specs.Machine.{Machine, Call, Steps, rowOf, refusalOf, turn, answered, IsStep}
 use Rattle.cursor.specs.Walk.{walkRun, plainRun}
 use Rattle.cursor.proofs.Calls as Calls
@@ -158,3 +166,39 @@ below-three = at-three
 -- examples, with place 38
 pub level-cases : Levels.Table
 level-cases = Levels.table
+
+-- ---- Document 02, c): exchanges from one permutation to another
+
+-- for any two permutations of n there is one that, as a product on the right, carries the first to the second, and only one
+pub one-carrying : {n : ℕ} {s t : List ℕ} → IsPermutation n s → IsPermutation n t → Carries n s t (carrying s t) × ((u : List ℕ) → Carries n s t u → u ≡ carrying s t)
+one-carrying p q = (carries p q, λ u c. one-carries p q c (carries p q))
+
+-- of whatever the call for exchanges answers and writes, where it does not refuse: the bytes written, read as pairs, name positions 1 to n, and exchanging the
+-- values at them, one pair after another, turns the first permutation into the second
+pub turned : {s t before after : List ℕ} {r : Exchanges} → Exchanged s t before r after → r .refusal ≡ 0
+    → Inside (length s) (pairsIn (take (r .written) after)) × (exchangeAll (pairsIn (take (r .written) after)) s ≡ t)
+turned = turns
+
+-- the count is n less the cycles, by following, of the permutation that carries the first to the second
+pub less-cycles : {s t before after : List ℕ} {r : Exchanges} → Exchanged s t before r after → r .refusal ≡ 0
+    → {u : List ℕ}
+    → Carries (length s) s t u
+    → r .count + cycles u ≡ length s
+less-cycles = number
+
+-- every list of pairs of positions 1 to n, equal ones in a pair included, that turns the first into the second has at least as many
+pub fewest : {s t before after : List ℕ} {r : Exchanges} → Exchanged s t before r after → r .refusal ≡ 0
+    → (x : List Pair)
+    → Inside (length s) x
+    → exchangeAll x s ≡ t
+    → r .count ≤ length x
+fewest = least
+
+-- equal permutations give none, write nothing and are not refused, whatever buffer is lent
+pub equal-none : {s before after : List ℕ} {r : Exchanges} → checkPermutation s ≡ 0 → Exchanged s s before r after
+    → (r ≡ record { refusal = 0; count = 0; written = 0 }) × (after ≡ before)
+equal-none = none
+
+-- examples
+pub pair-cases : Pairs.Table
+pair-cases = Pairs.table

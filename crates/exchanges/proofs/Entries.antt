@@ -3,7 +3,7 @@ use mathlib.Core.Path.{_≡_, refl, sym, _∙_}
 use Prim.Native.Nat.{ℕ, _≤_}
 use native.Mathlib.Omega.{arith}
 use mathlib.Core.List.{List, _++_}
-use lib.ListN.{length, take, drop, replicate, length-append, length-drop}
+use lib.ListN.{length, take, drop, replicate}
 use lib.Seq.{length-take-le, take-at}
 use Rattle.stirling.specs.Count.{checkSize}
 use Rattle.stirling.proofs.Counts.{size-passes}
@@ -31,8 +31,8 @@ module _ (n : ℕ) (s : List ℕ) (h : n ≤ 20) (p : IsPermutation n (take n s)
       w .refusal ∙ rw (size, lent, passes-values p, passes-twice p)
 
   -- and its array is written
-  pub entries-written : (length (after ++ drop n blank) ≡ 20) × IsArrayOf (take n s) (take n (after ++ drop n blank))
+  pub entries-written : IsArrayOf (take n s) (take n (after ++ drop n blank))
   entries-written =
       let a = w .written served in
       let l : length after ≡ n = a .array .size ∙ p .size in
-      (omega (arith, length-append after (drop n blank), length-drop n blank), rw (take-at after (drop n blank) n l) a)
+      rw (take-at after (drop n blank) n l) a

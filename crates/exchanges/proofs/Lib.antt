@@ -5,3 +5,4 @@ pub mod Pairs
 pub mod Answers
 pub mod Exchanging
 pub mod Answered
+pub mod Cases

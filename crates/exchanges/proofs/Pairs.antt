@@ -20,21 +20,21 @@ use Rattle.exchanges.specs.Pairs.{Pair, pairsTo, bytesOf, front, pairsIn
 abbrev pub given : ℕ → ℕ → List Pair
 given p i = cond (eqb p i) [] ((p, i) ∷ [])
 
--- a fixed entry gives no pair
-pub pairs-fixed : (p : List ℕ) (i : ℕ) → getD p i 0 ≡ i + 1 → pairsTo p (i + 1) ≡ pairsTo p i
-unfolding pairsTo
-pairs-fixed p i e = rw (add-one, at-suc p i, eq-eqb (getD p i 0) (suc i) (rw add-one at e)) (append-nil (pairsTo p i))
-
--- any other gives one
+-- an entry that is not fixed gives one
 pub pairs-moved : (p : List ℕ) (i : ℕ) → (getD p i 0 ≡ i + 1 → ⊥) → pairsTo p (i + 1) ≡ pairsTo p i ++ ((getD p i 0, i + 1) ∷ [])
 unfolding pairsTo
 pairs-moved p i d = rw (add-one, at-suc p i, ne-eqb (getD p i 0) (suc i) (rw add-one at d)) refl
 
--- and is one more
+-- a fixed entry gives none
+pub pairs-fixed : (p : List ℕ) (i : ℕ) → getD p i 0 ≡ i + 1 → pairsTo p (i + 1) ≡ pairsTo p i
+unfolding pairsTo
+pairs-fixed p i e = rw (add-one, at-suc p i, eq-eqb (getD p i 0) (suc i) (rw add-one at e)) (append-nil (pairsTo p i))
+
+-- so there is one more for an entry that is not fixed
 pub length-moved : (p : List ℕ) (i : ℕ) → (getD p i 0 ≡ i + 1 → ⊥) → length (pairsTo p (i + 1)) ≡ length (pairsTo p i) + 1
 length-moved p i d = ap length (pairs-moved p i d) ∙ length-append (pairsTo p i) ((getD p i 0, i + 1) ∷ [])
 
--- so there is a pair for each entry that is not fixed
+-- in all, one for each such entry
 pub length-pairs : (p : List ℕ) (m : ℕ) → length (pairsTo p m) ≡ tally (λ i. not (eqb (at p i) i)) (positions m)
 unfolding pairsTo tally range
 length-pairs p zero = refl
@@ -47,9 +47,13 @@ length-pairs p (suc m) =
     by-test true = refl
     by-test false = refl
 
--- with those that are, as many as all
+-- the pairs and the fixed entries are as many as the entries
 pub pairs-number : (p : List ℕ) (m : ℕ) → length (pairsTo p m) + tally (λ i. eqb (at p i) i) (positions m) ≡ m
 pairs-number p m = omega (arith, length-pairs p m, tally-not (λ i. eqb (at p i) i) (positions m), length-range 1 m)
+
+-- so there are no more pairs than entries
+pub pairs-few : (p : List ℕ) (m : ℕ) {k : ℕ} → k ≡ length (pairsTo p m) → k ≤ m
+pairs-few p m e = omega (arith, e, pairs-number p m)
 
 -- and no fewer with more entries
 pairs-more : (p : List ℕ) (m d : ℕ) → length (pairsTo p m) ≤ length (pairsTo p (m + d))
@@ -59,7 +63,7 @@ pairs-more p m (suc d) =
     rw (add-suc m d)
     (omega (arith, pairs-more p m d, length-append (pairsTo p (m + d)) (given (at p (suc (m + d))) (suc (m + d)))))
 
--- so a pair is one of all
+-- so a pair that is still to come is one of all
 pub pairs-room : (p : List ℕ) (i n : ℕ) → i < n → (getD p i 0 ≡ i + 1 → ⊥) → length (pairsTo p i) + 1 ≤ length (pairsTo p n)
 pairs-room p i n h d =
     let e : i + 1 + (n - (i + 1)) ≡ n = omega arith in

@@ -2,6 +2,7 @@
 // the entries that are not fixed.
 use perm::REFUSED_LENT;
 use perm::REFUSED_VALUE;
+use perm::wide;
 ghost use mathlib.Core.Path.{_≡_};
 ghost use Prim.Native.Nat.{ℕ, _*_, _≤_, _<_};
 ghost use mathlib.Core.Bool.{cond};
@@ -39,13 +40,13 @@ fn refused(refusal: u8) -> Exchanges
 fn check_lengths(from: usize, to: usize) -> u8
     ensures { λ r. ⌜ r ≡ checkSize from then checkSize to then checkLent from to ⌝ }
 {
-    let first = stirling::check_size(from as u64);
-    if first != 0 {
-        return first;
+    let from_size = stirling::check_size(from as u64);
+    if from_size != 0 {
+        return from_size;
     }
-    let second = stirling::check_size(to as u64);
-    if second != 0 {
-        return second;
+    let to_size = stirling::check_size(to as u64);
+    if to_size != 0 {
+        return to_size;
     }
     if to != from {
         return REFUSED_LENT;
@@ -76,13 +77,6 @@ fn check_contents(from: &[u8], to: &[u8]) -> u8
     first_refusal(first, second)
 }
 
-// A byte as an index's type.
-fn wide(x: u8) -> usize
-    ensures { λ r. ⌜ r ≡ x ⌝ }
-{
-    x as usize
-}
-
 // The index of each value of a permutation, by the value.
 fn indices(s: &[u8]) -> [u8; 21]
     requires { ⌜ (length (now s) ≤ 20) × IsPermutation (length (now s)) (now s) ⌝ }
@@ -100,7 +94,7 @@ fn indices(s: &[u8]) -> [u8; 21]
 // The permutation that carries `from` to `to`, in the front of the array: at each position the position at which `from` has the value that `to` has there.
 fn carry(from: &[u8], to: &[u8]) -> [u8; 20]
     requires { ⌜ (length (now from) ≤ 20) × IsPermutation (length (now from)) (now from) × IsPermutation (length (now from)) (now to) ⌝ }
-    ensures { λ r. ⌜ (length r ≡ 20) × (take (length (now (to .entry))) r ≡ carrying (now (from .entry)) (now (to .entry))) ⌝ }
+    ensures { λ r. ⌜ take (length (now (to .entry))) r ≡ carrying (now (from .entry)) (now (to .entry)) ⌝ }
 {
     let index = indices(from);
     let mut carrier = [0u8; 20];
@@ -114,8 +108,8 @@ fn carry(from: &[u8], to: &[u8]) -> [u8; 20]
 
 // The transposition array of the permutation in the front of an array, in the front of another.
 fn entries_of(s: [u8; 20], n: usize) -> [u8; 20]
-    requires { ⌜ (n ≤ 20) × (length s ≡ 20) × IsPermutation n (take n s) ⌝ }
-    ensures { λ r. ⌜ (length r ≡ 20) × IsArrayOf (take n s) (take n r) ⌝ }
+    requires { ⌜ (n ≤ 20) × IsPermutation n (take n s) ⌝ }
+    ensures { λ r. ⌜ IsArrayOf (take n s) (take n r) ⌝ }
 {
     let mut entries = [0u8; 20];
     perm::to_array(&s[..n], &mut entries[..n]);
@@ -124,7 +118,7 @@ fn entries_of(s: [u8; 20], n: usize) -> [u8; 20]
 
 // How many of the first n entries are not fixed: as many pairs do they give.
 fn count_pairs(entries: [u8; 20], n: usize) -> usize
-    requires { ⌜ (n ≤ 20) × (length entries ≡ 20) ⌝ }
+    requires { ⌜ n ≤ 20 ⌝ }
     ensures { λ r. ⌜ r ≡ length (pairsTo entries n) ⌝ }
 {
     let mut count = 0;
@@ -141,7 +135,7 @@ fn count_pairs(entries: [u8; 20], n: usize) -> usize
 
 // The pairs of the first n entries, to the front of `out`.
 fn write_pairs(entries: [u8; 20], n: usize, out: &mut [u8])
-    requires { ⌜ (n ≤ 20) × (length entries ≡ 20) × (2 * length (pairsTo entries n) ≤ length (now out)) ⌝ }
+    requires { ⌜ (n ≤ 20) × (2 * length (pairsTo entries n) ≤ length (now out)) ⌝ }
     ensures { λ r. ⌜ now (out .exit) ≡ front (pairsTo entries n) (now (out .entry)) ⌝ }
 {
     let mut at = 0;

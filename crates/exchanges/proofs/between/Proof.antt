@@ -8,7 +8,7 @@ use lib.ListN.{length}
 use Rattle.exchanges.specs.Pairs.{Pair, pairsTo, front}
 use Rattle.exchanges.specs.Between.{pairsBetween}
 use Rattle.exchanges.proofs.Both.{Both, lengths, contents, lengths-passed, both-passed, lengths-refuse}
-use Rattle.exchanges.proofs.Pairs.{pairs-number}
+use Rattle.exchanges.proofs.Pairs.{pairs-few}
 use Rattle.exchanges.proofs.Answers.{carrier-permutation, pairs-between, refused, refused-contents, refused-room, served}
 use Rattle.exchanges.proofs.between.Statement.{statement}
 use Rattle.exchanges.proofs.between.Tie as tie
@@ -64,21 +64,21 @@ carry-requires c κs = let b = both c in (b .small, b .from, b .to)
 entries-of-requires : tie.Need-entries-of-requires
 entries-of-requires c κs =
     let b = both (c .before) in
-    (b .small, c .carry .ensures .0, carrier-permutation b (c .carry .result) (c .carry .ensures .1))
+    (b .small, carrier-permutation b (c .carry .result) (c .carry .ensures))
 
 count-pairs-requires : tie.Need-count-pairs-requires
-count-pairs-requires c κs = (both (c .before .before) .small, c .entries-of .ensures .0)
+count-pairs-requires c κs = both (c .before .before) .small
 
 -- the pairs of the entries are those from one permutation to the other
 found : (c : tie.After-entries-of)
     → let e = c .before .before in
     pairsTo (c .entries-of .result) (length (from e)) ≡ pairsBetween (from e) (to e)
-found c = pairs-between (both (c .before .before)) (c .before .carry .result) (c .before .carry .ensures .1) (c .entries-of .result) (c .entries-of .ensures .1)
+found c = pairs-between (both (c .before .before)) (c .before .carry .result) (c .before .carry .ensures) (c .entries-of .result) (c .entries-of .ensures)
 
 mul-written : tie.Need-mul-written
 mul-written c =
     let e = c .before .before .before in
-    omega (arith, c .count-pairs .ensures, pairs-number (c .before .entries-of .result) (length (from e)), both e .small)
+    omega (arith, pairs-few _ (length (from e)) (c .count-pairs .ensures), both e .small)
 
 -- and they are counted
 number : (c : tie.After-count-pairs) → let e = c .before .before .before in c .count-pairs .result ≡ length (pairsBetween (from e) (to e))
@@ -91,12 +91,13 @@ returns-3 : tie.Need-returns-3
 returns-3 c =
     let d = c .before .before in
     let e = d .before .before .before in
-    refused-room (from e) (to e) _ (fit (e .before .before)) (passed e) (number d) (c .before .if3 .taken) (c .refused3 .ensures)
+    let out = e .before .before .before .before .before .before .before .args .out .now in
+    refused-room (from e) (to e) out (fit (e .before .before)) (passed e) (number d) (omega (arith, c .before .if3 .taken)) (c .refused3 .ensures)
 
 write-pairs-requires : tie.Need-write-pairs-requires
 write-pairs-requires c κs =
     let d = c .before .before in
-    (both (d .before .before .before) .small, d .before .entries-of .ensures .0, omega (arith, c .before .if3 .left, d .count-pairs .ensures))
+    (both (d .before .before .before) .small, omega (arith, c .before .if3 .left, d .count-pairs .ensures))
 
 same-length : tie.Need-same-length
 same-length c = search needs

@@ -66,7 +66,7 @@ returns c =
     let from = b .before .before .before .before .args .from .now in
     let to = b .before .before .before .before .args .to .now in
     let done : b .loop .i ≡ length to = omega arith in
-    (b .loop .inv .1, (rw done at (b .loop .inv .2)) ∙ take-all (length to) (carrying from to) (omega (arith, length-carrying (pre .1) (pre .2), pre .2 .size)))
+    rw done at (b .loop .inv .2) ∙ take-all (length to) (carrying from to) (omega (arith, length-carrying (pre .1) (pre .2), pre .2 .size))
 
 pub carry-spec : {M : Type 1} → statement M
 carry-spec =

@@ -22,7 +22,7 @@ to-array-requires c κs = search needs
 returns : tie.Need-returns
 returns c =
     let b = c .before .before .before .before in
-    entries-written (b .args .n) (b .args .t1) (b .pre .0) (b .pre .2) (c .before .to-array .ensures)
+    entries-written (b .args .n) (b .args .t1) (b .pre .0) (b .pre .1) (c .before .to-array .ensures)
 
 pub entries-of-spec : {M : Type 1} → statement M
 entries-of-spec = tie.close (tie.spec array-share-prefix-s slice-aggregate-to-array array-borrow-prefix-entries slice-aggregate-to-array-2 to-array-requires returns)

@@ -1,6 +1,7 @@
 -- `exchanges::first_refusal` meets its contract. Assumes nothing.
 use mathlib.Core.Path.{_≡_, refl, sym}
 use Prim.Native.Nat.{ℕ}
+use native.Mathlib.Omega.{arith}
 use mathlib.Core.Bool.{cond}
 use lib.Dec.{eqb}
 use borrow.Author.Tests.{eq-eqb, ne-eqb}
@@ -18,7 +19,7 @@ other : (first second : ℕ) {r : ℕ} → (second ≡ 6 → ⊥) → first then
 other first second d e = rw (ne-eqb second 6 d) (sym e)
 
 returns : tie.Need-returns
-returns c = value (c .before .args .first) _ (c .if1 .taken)
+returns c = let a = c .before .args in value (a .first) (a .second) (omega (arith, c .if1 .taken))
 
 returns-2 : tie.Need-returns-2
 returns-2 c = let a = c .before .before .args in other (a .first) (a .second) (c .before .if1 .left) (then-refuses (a .first) (a .second) (c .if2 .taken))

@@ -37,7 +37,7 @@ room c =
     let b = c .before .before in
     let args = b .before .args in
     let more = pairs-room (args .t1) (b .loop .i) (args .n) (omega arith) (c .if1 .taken) in
-    let most = b .before .pre .2 in
+    let most = b .before .pre .1 in
     let same = length-front (pairsTo (args .t1) (b .loop .i)) (args .out .now) (omega (arith, more, most)) in
     (ap length (b .loop .inv .2) ∙ same, omega (arith, b .loop .inv .1, more, most), omega (arith, b .loop .inv .1, b .before .pre .0, pairs-number (args .t1) (b .loop .i)))
 
@@ -79,7 +79,7 @@ same-length : tie.Need-same-length Inv-loop μ-loop
 same-length c =
     let b = c .before in
     let done : b .loop .i ≡ b .before .args .n = omega arith in
-    ap length (b .loop .inv .2) ∙ length-front (pairsTo (b .before .args .t1) (b .loop .i)) (b .before .args .out .now) (rw done (b .before .pre .2))
+    ap length (b .loop .inv .2) ∙ length-front (pairsTo (b .before .args .t1) (b .loop .i)) (b .before .args .out .now) (rw done (b .before .pre .1))
 
 returns : tie.Need-returns Inv-loop μ-loop
 returns c = let done : c .before .loop .i ≡ c .before .before .args .n = omega arith in rw done at (c .before .loop .inv .2)
