@@ -170,7 +170,8 @@ level-cases = Levels.table
 -- ---- Document 02, c): exchanges from one permutation to another
 
 -- for any two permutations of n there is one that, as a product on the right, carries the first to the second, and only one
-pub one-carrying : {n : ℕ} {s t : List ℕ} → IsPermutation n s → IsPermutation n t → Carries n s t (carrying s t) × ((u : List ℕ) → Carries n s t u → u ≡ carrying s t)
+pub one-carrying : {n : ℕ} {s t : List ℕ} → IsPermutation n s → IsPermutation n t
+    → Carries n s t (carrying s t) × ((u : List ℕ) → Carries n s t u → u ≡ carrying s t)
 one-carrying p q = (carries p q, λ u c. one-carries p q c (carries p q))
 
 -- of whatever the call for exchanges answers and writes, where it does not refuse: the bytes written, read as pairs, name positions 1 to n, and exchanging the

@@ -1,13 +1,12 @@
 -- What the call for exchanges answers: its refusals, and the pairs that it finds from the entries of an array. Assumes nothing.
-use mathlib.Core.Path.{_≡_, refl, sym, ap, _∙_, subst}
+use mathlib.Core.Path.{_≡_, refl, sym, ap, _∙_}
 use Prim.Native.Nat.{ℕ, zero, suc, _*_, _≤_, _<_}
 use native.Mathlib.Omega.{arith}
 use mathlib.Core.List.{List}
-use lib.Dec.{ltb}
 use lib.ListN.{length, take}
 use lib.Seq.{getD-take}
 use borrow.Author.Tests.{lt-ltb, le-ltb}
-use Rattle.stirling.specs.Refusal.{refuse, _then_}
+use Rattle.stirling.specs.Refusal.{_then_}
 use Rattle.stirling.proofs.Refusals.{then-stops, then-passes, refuse-applies, refuse-passes}
 use Rattle.perm.specs.Permutation.{IsPermutation, at}
 use Rattle.perm.specs.Array.{IsArrayOf, arrayOf}
@@ -46,7 +45,8 @@ module _ {s t : List ℕ} (b : Both s t) where
         sym (pairs-front r (length s) (length s) (omega arith)) ∙ ap (pairsTo (take (length s) r)) (sym l) ∙ ap (λ (p : List ℕ). pairsTo p (length p)) e
 
 -- a refusal comes with zeros, and every byte stays
-pub refused : (s t before : List ℕ) {q : ℕ} {r : Exchanges} → q ≡ checkBetween s t (length before) → (q ≡ 0 → ⊥) → r ≡ record { refusal = q; count = 0; written = 0 }
+pub refused : (s t before : List ℕ) {q : ℕ} {r : Exchanges} → q ≡ checkBetween s t (length before) → (q ≡ 0 → ⊥)
+    → r ≡ record { refusal = q; count = 0; written = 0 }
     → Exchanged s t before r before
 refused s t before e h w = rw w (record {
   refusal = e;
@@ -59,7 +59,8 @@ refused s t before e h w = rw w (record {
 
 module _ (s t before : List ℕ) (fit : lengths s t ≡ 0) where
   -- that of checks 6 and 7
-  pub refused-contents : {q : ℕ} {r : Exchanges} → q ≡ contents s t → (q ≡ 0 → ⊥) → r ≡ record { refusal = q; count = 0; written = 0 } → Exchanged s t before r before
+  pub refused-contents : {q : ℕ} {r : Exchanges} → q ≡ contents s t → (q ≡ 0 → ⊥) → r ≡ record { refusal = q; count = 0; written = 0 }
+      → Exchanged s t before r before
   refused-contents e h = refused s t before (then-stops _ _ _ e h ∙ sym (past-lengths s t (length before) fit)) h
 
   module _ (passed : contents s t ≡ 0) {k : ℕ} (number : k ≡ length (pairsBetween s t)) where

@@ -38,10 +38,13 @@ unfolding multiply
 length-multiply s u = length-map u (at s)
 
 -- s·(u·⟨a,b⟩) = (s·u)·⟨a,b⟩
-pub multiply-exchange : (s u : List ℕ) (a b : ℕ) → 1 ≤ a → a ≤ length u → 1 ≤ b → b ≤ length u → exchange a b (multiply s u) ≡ multiply s (exchange a b u)
+pub multiply-exchange : (s u : List ℕ) (a b : ℕ) → 1 ≤ a → a ≤ length u → 1 ≤ b → b ≤ length u
+    → exchange a b (multiply s u) ≡ multiply s (exchange a b u)
 unfolding multiply exchange
 multiply-exchange s u a b ha ka hb kb =
-    rw (getD-map (at s) u (a - 1) (omega arith), getD-map (at s) u (b - 1) (omega arith), map-set (at s) (put u a (at u b)) (b - 1) (at u a), map-set (at s) u (a - 1) (at u b)) refl
+    let left = getD-map (at s) u (a - 1) (omega arith) in
+    let right = getD-map (at s) u (b - 1) (omega arith) in
+    rw (left, right, map-set (at s) (put u a (at u b)) (b - 1) (at u a), map-set (at s) u (a - 1) (at u b))
 
 -- the product with the identity
 pub multiply-identity : {n : ℕ} (s : List ℕ) → length s ≡ n → multiply s (positions n) ≡ s
@@ -89,7 +92,8 @@ module _ {n : ℕ} {s t : List ℕ} (p : IsPermutation n s) (q : IsPermutation n
         (multiply s (carrying s t))
         t
         (length-multiply s (carrying s t) ∙ length-carrying ∙ sym (q .size))
-        (λ i h k. let b : i ≤ n = omega (arith, length-multiply s (carrying s t), length-carrying) in at-multiply s (carrying s t) i h (omega (arith, length-carrying)) ∙ there i h b .2);
+        (λ i h k. let b : i ≤ n = omega (arith, length-multiply s (carrying s t), length-carrying) in
+        at-multiply s (carrying s t) i h (omega (arith, length-carrying)) ∙ there i h b .2);
   }
 
   -- and any such permutation is this one
@@ -125,7 +129,8 @@ module _ {s : List ℕ} (p : IsPermutation (length s) s) (index : List ℕ) (x :
         (r .0, r .1 ∙ ap (λ (v : ℕ). position v s) e ∙ sym (getD-map (λ v. position v s) t i h))
 
     -- one value more of the permutation that carries s to t
-    pub carried-step : (u : List ℕ) → i < length u → take i u ≡ take i (carrying s t) → take (i + 1) (set u i (getD index w 0 + 1)) ≡ take (i + 1) (carrying s t)
+    pub carried-step : (u : List ℕ) → i < length u → take i u ≡ take i (carrying s t)
+        → take (i + 1) (set u i (getD index w 0 + 1)) ≡ take (i + 1) (carrying s t)
     carried-step u k a =
         let there : i < length (carrying s t) = omega (arith, length-carrying p q, q .size) in
         rw (add-one, take-suc-set u i (getD index w 0 + 1) k, take-suc (carrying s t) i 0 there, a, index-found .1)

@@ -1,7 +1,6 @@
 -- The array of the permutation in the front of an array of 20 bytes, written to the front of another. Assumes nothing.
-use mathlib.Core.Path.{_≡_, refl, sym, _∙_}
+use mathlib.Core.Path.{_≡_, sym, _∙_}
 use Prim.Native.Nat.{ℕ, _≤_}
-use native.Mathlib.Omega.{arith}
 use mathlib.Core.List.{List, _++_}
 use lib.ListN.{length, take, drop, replicate}
 use lib.Seq.{length-take-le, take-at}
@@ -9,7 +8,7 @@ use Rattle.stirling.specs.Count.{checkSize}
 use Rattle.stirling.proofs.Counts.{size-passes}
 use Rattle.perm.specs.Permutation.{IsPermutation}
 use Rattle.perm.specs.Array.{IsArrayOf}
-use Rattle.perm.specs.Checks.{ToArray, checkLent, checkToArray}
+use Rattle.perm.specs.Checks.{ToArray, checkLent}
 use Rattle.perm.proofs.Refused.{lent-passes}
 use Rattle.perm.proofs.Checked.{passes-values, passes-twice}
 

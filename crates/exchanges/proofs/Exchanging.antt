@@ -1,19 +1,19 @@
 -- What pairs do, one after another: those of the array of the permutation that carries s to t turn s into t, they are as many as n less its cycles, and no list of
 -- pairs that turns s into t has fewer. Assumes nothing.
-use mathlib.Core.Path.{_≡_, refl, sym, ap, ap₂, _∙_, subst}
+use mathlib.Core.Path.{_≡_, refl, sym, ap, _∙_, subst}
 use Prim.Native.Nat.{ℕ, zero, suc, _+_, _≤_}
 use native.Mathlib.Omega.{arith}
 use native.Mathlib.Decide.{ℕ-discrete}
-use mathlib.Core.Bool.{Bool, true, false, not, cond}
+use mathlib.Core.Bool.{Bool, true, false, cond}
 use mathlib.Core.List.{List, [], _∷_, _++_}
 use lib.Dec.{eqb}
-use lib.ListN.{length, length-append}
+use lib.ListN.{length}
 use borrow.Author.Tests.{eqb-true}
-use Rattle.perm.specs.Lists.{one, tally, range, positions}
+use Rattle.perm.specs.Lists.{tally, range, positions}
 use Rattle.perm.specs.Permutation.{IsPermutation, at, exchange, extend}
 use Rattle.perm.specs.Cycle.{cycles}
-use Rattle.perm.specs.Array.{IsArray, IsArrayOf, partial, product, arrayOf}
-use Rattle.perm.proofs.Tally.{range-snoc, tally-positions, tally-not, length-range}
+use Rattle.perm.specs.Array.{IsArray, partial, product, arrayOf}
+use Rattle.perm.proofs.Tally.{range-snoc, length-range}
 use Rattle.perm.proofs.Exchange.{exchange-same, length-exchange}
 use Rattle.perm.proofs.Split.{extend-permutation}
 use Rattle.perm.proofs.Cycles.{cycles-extend}
@@ -76,7 +76,8 @@ all-multiply (a ∷ x) s u e i =
     ∙ all-multiply x s (exchange (a .0) (a .1) u) (length-exchange (a .0) (a .1) u ∙ e) (i .4)
 
 -- of a permutation of n, one exchange makes a permutation that has at most one cycle less
-near : {n : ℕ} {s : List ℕ} → IsPermutation n s → (a b : ℕ) → 1 ≤ a → a ≤ n → 1 ≤ b → b ≤ n → IsPermutation n (exchange a b s) × (cycles s ≤ suc (cycles (exchange a b s)))
+near : {n : ℕ} {s : List ℕ} → IsPermutation n s → (a b : ℕ) → 1 ≤ a → a ≤ n → 1 ≤ b → b ≤ n
+    → IsPermutation n (exchange a b s) × (cycles s ≤ suc (cycles (exchange a b s)))
 near {n} {s} p a b ha ka hb kb = by-place (ℕ-discrete a b)
   where
     by-place : Dec (a ≡ b) → IsPermutation n (exchange a b s) × (cycles s ≤ suc (cycles (exchange a b s)))
@@ -84,7 +85,8 @@ near {n} {s} p a b ha ka hb kb = by-place (ℕ-discrete a b)
     by-place (no d) = (exchange-permutation p a b ha ka hb kb d, exchange-near p a b ha ka hb kb d .0)
 
 -- and some exchanges one that has at most as many cycles less
-all-near : {n : ℕ} (x : List Pair) {s : List ℕ} → IsPermutation n s → Inside n x → IsPermutation n (exchangeAll x s) × (cycles s ≤ length x + cycles (exchangeAll x s))
+all-near : {n : ℕ} (x : List Pair) {s : List ℕ} → IsPermutation n s → Inside n x
+    → IsPermutation n (exchangeAll x s) × (cycles s ≤ length x + cycles (exchangeAll x s))
 unfolding exchangeAll Inside
 all-near [] p i = (p, omega arith)
 all-near (a ∷ x) p i =
@@ -161,5 +163,4 @@ module _ {n : ℕ} {s t : List ℕ} (p : IsPermutation n s) (q : IsPermutation n
 
   -- and no such pairs are fewer
   pub fewest : (x : List Pair) → Inside n x → exchangeAll x s ≡ t → length (pairsBetween s t) ≤ length x
-  fewest x i e =
-      omega (arith, counted (turns x i e), all-near x (identity n .0) i .1, identity n .1)
+  fewest x i e = omega (arith, counted (turns x i e), all-near x (identity n .0) i .1, identity n .1)

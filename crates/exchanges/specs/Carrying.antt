@@ -14,6 +14,7 @@ pub record Carries (n : ℕ) (s t u : List ℕ) : Type 0 where
   pub permutation : IsPermutation n u
   pub product : multiply s u ≡ t
 
--- at each position i the position at which s has the value t(i). The laws `carries` and `one-carries` (proofs/Carrying.antt): it is the one permutation that carries s to t
+-- at each position i the position at which s has the value t(i). The laws `carries` and `one-carries` (proofs/Carrying.antt): it is the one permutation that
+-- carries s to t
 unfoldable pub carrying : List ℕ → List ℕ → List ℕ
 carrying s t = map (λ v. position v s) t

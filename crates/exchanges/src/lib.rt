@@ -6,9 +6,9 @@ use perm::wide;
 ghost use mathlib.Core.Path.{_≡_};
 ghost use Prim.Native.Nat.{ℕ, _*_, _≤_, _<_};
 ghost use mathlib.Core.Bool.{cond};
-ghost use lib.Dec.{eqb, ltb};
+ghost use lib.Dec.{eqb};
 ghost use lib.ListN.{length, getD, take};
-ghost use Rattle.stirling.specs.Refusal.{refuse, _then_};
+ghost use Rattle.stirling.specs.Refusal.{_then_};
 ghost use Rattle.stirling.specs.Count.{checkSize};
 ghost use Rattle.perm.specs.Permutation.{IsPermutation};
 ghost use Rattle.perm.specs.Array.{IsArrayOf};
@@ -70,7 +70,11 @@ fn first_refusal(first: u8, second: u8) -> u8
 // The checks 6 and 7 on two permutations that check 1 passes, all of 6 before any of 7.
 fn check_contents(from: &[u8], to: &[u8]) -> u8
     requires { ⌜ (length (now from) ≤ 20) × (length (now to) ≤ 20) ⌝ }
-    ensures { λ r. ⌜ r ≡ checkValues (now (from .entry)) then checkValues (now (to .entry)) then checkTwice (now (from .entry)) then checkTwice (now (to .entry)) ⌝ }
+    ensures { λ r. ⌜ r
+        ≡ checkValues (now (from .entry))
+        then checkValues (now (to .entry))
+        then checkTwice (now (from .entry))
+        then checkTwice (now (to .entry)) ⌝ }
 {
     let first = perm::check_permutation(from);
     let second = perm::check_permutation(to);

@@ -1,7 +1,7 @@
 -- `exchanges::carry` meets its contract. The loop's invariant: the first i values are those of the permutation that carries one to the other. Assumes nothing.
-use Prim.Native.Nat.{_≤_, _-_}
+use Prim.Native.Nat.{_≤_, _<_, _-_}
 use native.Mathlib.Omega.{arith}
-use mathlib.Core.Path.{_≡_, refl, sym, _∙_}
+use mathlib.Core.Path.{_≡_, refl, _∙_}
 use borrow.Author.Needs.{needs}
 use lib.ListN.{length, take, length-set}
 use lib.Seq.{take-all}
@@ -39,7 +39,8 @@ add-carrier : tie.Need-add-carrier Inv-loop μ-loop
 add-carrier c =
     let b = c .before .before .before in
     let pre = b .before .before .before .before .pre in
-    omega (arith, pre .0, index-found (pre .1) (b .before .indices .result) (b .before .indices .ensures .1) (pre .2) (b .loop .i) _ (omega arith) (c .wide .ensures) .0)
+    let x = b .before .indices in
+    omega (arith, pre .0, index-found (pre .1) (x .result) (x .ensures .1) (pre .2) (b .loop .i) _ (omega arith) (c .wide .ensures) .0)
 
 array-write-carrier : tie.Need-array-write-carrier Inv-loop μ-loop
 array-write-carrier c = let pre = c .before .before .before .before .before .before .before .pre in omega (arith, pre .0, pre .2 .size)
@@ -53,10 +54,12 @@ loop-less c = omega arith
 loop-again : tie.Need-loop-again Inv-loop μ-loop
 loop-again c =
     let b = c .before .before .before in
-    let pre = b .before .before .before .before .pre in (
+    let pre = b .before .before .before .before .pre in
+    let x = b .before .indices in
+    let room : b .loop .i < length (b .loop .carrier) = omega (arith, pre .0, pre .2 .size, b .loop .inv .1) in (
       omega arith,
       simp length-set (b .loop .inv .1),
-      carried-step (pre .1) (b .before .indices .result) (b .before .indices .ensures .1) (pre .2) (b .loop .i) _ (omega arith) (c .wide .ensures) (b .loop .carrier) (omega (arith, pre .0, pre .2 .size, b .loop .inv .1)) (b .loop .inv .2),
+      carried-step (pre .1) (x .result) (x .ensures .1) (pre .2) (b .loop .i) _ (omega arith) (c .wide .ensures) (b .loop .carrier) room (b .loop .inv .2),
     )
 
 returns : tie.Need-returns Inv-loop μ-loop

@@ -2,7 +2,7 @@
 -- Assumes nothing.
 use Prim.Native.Nat.{_+_, _-_, _*_, _≤_}
 use native.Mathlib.Omega.{arith}
-use mathlib.Core.Path.{_≡_, refl, sym, ap, _∙_}
+use mathlib.Core.Path.{_≡_, refl, ap, _∙_}
 use borrow.Author.Needs.{needs}
 use lib.ListN.{length, getD, length-set}
 use Rattle.exchanges.specs.Pairs.{pairsTo, bytesOf, front}
@@ -39,7 +39,8 @@ room c =
     let more = pairs-room (args .t1) (b .loop .i) (args .n) (omega arith) (c .if1 .taken) in
     let most = b .before .pre .1 in
     let same = length-front (pairsTo (args .t1) (b .loop .i)) (args .out .now) (omega (arith, more, most)) in
-    (ap length (b .loop .inv .2) ∙ same, omega (arith, b .loop .inv .1, more, most), omega (arith, b .loop .inv .1, b .before .pre .0, pairs-number (args .t1) (b .loop .i)))
+    let few = pairs-number (args .t1) (b .loop .i) in
+    (ap length (b .loop .inv .2) ∙ same, omega (arith, b .loop .inv .1, more, most), omega (arith, b .loop .inv .1, b .before .pre .0, few))
 
 slice-write-out : tie.Need-slice-write-out Inv-loop μ-loop
 slice-write-out c = omega (arith, room c)
