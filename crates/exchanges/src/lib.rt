@@ -2,7 +2,6 @@
 // the entries that are not fixed.
 use perm::REFUSED_LENT;
 use perm::REFUSED_VALUE;
-use perm::wide;
 ghost use mathlib.Core.Path.{_≡_};
 ghost use Prim.Native.Nat.{ℕ, _*_, _≤_, _<_};
 ghost use mathlib.Core.Bool.{cond};
@@ -89,7 +88,7 @@ fn indices(s: &[u8]) -> [u8; 21]
     let mut index = [0u8; 21];
     let mut i = 0;
     while i < s.len() {
-        index[wide(s[i])] = i as u8;
+        index[s[i] as usize] = i as u8;
         i += 1;
     }
     index
@@ -104,7 +103,7 @@ fn carry(from: &[u8], to: &[u8]) -> [u8; 20]
     let mut carrier = [0u8; 20];
     let mut i = 0;
     while i < to.len() {
-        carrier[i] = index[wide(to[i])] + 1;
+        carrier[i] = index[to[i] as usize] + 1;
         i += 1;
     }
     carrier
@@ -128,9 +127,9 @@ fn count_pairs(entries: [u8; 20], n: usize) -> usize
     let mut count = 0;
     let mut i = 0;
     while i < n {
-        let entry = wide(entries[i]);
+        let entry = entries[i];
         i += 1;
-        if entry != i {
+        if entry != i as u8 {
             count += 1;
         }
     }

@@ -23,7 +23,7 @@ fn in_range(v: u8, n: usize) -> bool
 }
 
 // A byte as an index's type.
-pub fn wide(x: u8) -> usize
+fn wide(x: u8) -> usize
     ensures { λ r. ⌜ r ≡ x ⌝ }
 {
     x as usize

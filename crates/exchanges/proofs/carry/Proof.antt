@@ -2,8 +2,7 @@
 use Prim.Native.Nat.{_≤_, _<_, _-_}
 use native.Mathlib.Omega.{arith}
 use mathlib.Core.Path.{_≡_, refl, _∙_}
-use borrow.Author.Needs.{needs}
-use lib.ListN.{length, take, length-set}
+use lib.ListN.{length, getD, take, length-set}
 use lib.Seq.{take-all}
 use Rattle.perm.proofs.Steps.{value-bound}
 use Rattle.exchanges.specs.Carrying.{carrying}
@@ -23,27 +22,33 @@ indices-requires c κs = let pre = c .before .before .pre in (pre .0, pre .1)
 loop-holds : tie.Need-loop-holds Inv-loop μ-loop
 loop-holds c = (omega arith, refl, refl)
 
-shared-slice-read-wide : tie.Need-shared-slice-read-wide Inv-loop μ-loop
-shared-slice-read-wide c = omega arith
+shared-slice-read-carrier : tie.Need-shared-slice-read-carrier Inv-loop μ-loop
+shared-slice-read-carrier c = omega arith
 
-wide-requires : tie.Need-wide-requires Inv-loop μ-loop
-wide-requires c κs = search needs
-
-array-read-carrier : tie.Need-array-read-carrier Inv-loop μ-loop
-array-read-carrier c =
-    let b = c .before .before .before in
-    let pre = b .before .before .before .before .pre in
-    rw (c .wide .ensures) (omega (arith, pre .0, value-bound (pre .2) (b .loop .i) (omega (arith, pre .2 .size))))
-
-add-carrier : tie.Need-add-carrier Inv-loop μ-loop
-add-carrier c =
-    let b = c .before .before .before in
+-- a value is at most 20, and its index is found
+found : (c : tie.After-shared-slice-known3 Inv-loop μ-loop)
+    → let b = c .before .before in
+    let v = getD (b .before .before .before .before .args .to .now) (b .loop .i) 0 in
+    (v ≤ 20) × (getD (b .before .indices .result) v 0 < 20)
+found c =
+    let b = c .before .before in
     let pre = b .before .before .before .before .pre in
     let x = b .before .indices in
-    omega (arith, pre .0, index-found (pre .1) (x .result) (x .ensures .1) (pre .2) (b .loop .i) _ (omega arith) (c .wide .ensures) .0)
+    let v = value-bound (pre .2) (b .loop .i) (omega (arith, pre .2 .size)) in
+    let at = index-found (pre .1) (x .result) (x .ensures .1) (pre .2) (b .loop .i) _ (omega arith) refl in
+    (omega (arith, pre .0, v .1), omega (arith, pre .0, at .0))
+
+cast-carrier : tie.Need-cast-carrier Inv-loop μ-loop
+cast-carrier c = omega (arith, found c .0)
+
+array-read-carrier : tie.Need-array-read-carrier Inv-loop μ-loop
+array-read-carrier c = omega (arith, found c .0)
+
+add-carrier : tie.Need-add-carrier Inv-loop μ-loop
+add-carrier c = omega (arith, found c .1)
 
 array-write-carrier : tie.Need-array-write-carrier Inv-loop μ-loop
-array-write-carrier c = let pre = c .before .before .before .before .before .before .before .pre in omega (arith, pre .0, pre .2 .size)
+array-write-carrier c = let pre = c .before .before .before .before .before .before .pre in omega (arith, pre .0, pre .2 .size)
 
 add-i : tie.Need-add-i Inv-loop μ-loop
 add-i c = omega arith
@@ -53,13 +58,13 @@ loop-less c = omega arith
 
 loop-again : tie.Need-loop-again Inv-loop μ-loop
 loop-again c =
-    let b = c .before .before .before in
+    let b = c .before .before in
     let pre = b .before .before .before .before .pre in
     let x = b .before .indices in
     let room : b .loop .i < length (b .loop .carrier) = omega (arith, pre .0, pre .2 .size, b .loop .inv .1) in (
       omega arith,
       simp length-set (b .loop .inv .1),
-      carried-step (pre .1) (x .result) (x .ensures .1) (pre .2) (b .loop .i) _ (omega arith) (c .wide .ensures) (b .loop .carrier) room (b .loop .inv .2),
+      carried-step (pre .1) (x .result) (x .ensures .1) (pre .2) (b .loop .i) _ (omega arith) refl (b .loop .carrier) room (b .loop .inv .2),
     )
 
 returns : tie.Need-returns Inv-loop μ-loop
@@ -79,8 +84,8 @@ carry-spec =
     μ-loop
     indices-requires
     loop-holds
-    shared-slice-read-wide
-    wide-requires
+    shared-slice-read-carrier
+    cast-carrier
     array-read-carrier
     add-carrier
     array-write-carrier

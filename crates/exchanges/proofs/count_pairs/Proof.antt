@@ -19,14 +19,14 @@ loop-holds : tie.Need-loop-holds Inv-loop μ-loop
 unfolding pairsTo
 loop-holds c = (omega arith, omega arith, refl)
 
-array-read-wide : tie.Need-array-read-wide Inv-loop μ-loop
-array-read-wide c = search needs
-
-wide-requires : tie.Need-wide-requires Inv-loop μ-loop
-wide-requires c κs = search needs
+array-read-entry : tie.Need-array-read-entry Inv-loop μ-loop
+array-read-entry c = search needs
 
 add-i : tie.Need-add-i Inv-loop μ-loop
 add-i c = search needs
+
+cast-if1 : tie.Need-cast-if1 Inv-loop μ-loop
+cast-if1 c = search needs
 
 add-count : tie.Need-add-count Inv-loop μ-loop
 add-count c = search needs
@@ -36,9 +36,9 @@ loop-less c = search needs
 
 loop-again : tie.Need-loop-again Inv-loop μ-loop
 loop-again c =
-    let b = c .before .before .before in
+    let b = c .before .before in
     let entries = b .before .args .t1 in
-    let moved = length-moved entries (b .loop .i) (λ e. c .if1 .taken (c .before .wide .ensures ∙ e)) in
+    let moved = length-moved entries (b .loop .i) (c .if1 .taken) in
     (omega arith, omega arith, omega (arith, b .loop .inv .2, moved))
 
 loop-less-2 : tie.Need-loop-less-2 Inv-loop μ-loop
@@ -46,9 +46,9 @@ loop-less-2 c = search needs
 
 loop-again-2 : tie.Need-loop-again-2 Inv-loop μ-loop
 loop-again-2 c =
-    let b = c .before .before .before in
+    let b = c .before .before in
     let entries = b .before .args .t1 in
-    let fixed = pairs-fixed entries (b .loop .i) (sym (c .before .wide .ensures) ∙ c .if1 .left) in
+    let fixed = pairs-fixed entries (b .loop .i) (c .if1 .left) in
     (omega arith, omega arith, b .loop .inv .2 ∙ ap length (sym fixed))
 
 returns : tie.Need-returns Inv-loop μ-loop
@@ -56,4 +56,4 @@ returns c = let done : c .before .loop .i ≡ c .before .before .args .n = omega
 
 pub count-pairs-spec : {M : Type 1} → statement M
 count-pairs-spec =
-    tie.close (tie.spec Inv-loop μ-loop loop-holds array-read-wide wide-requires add-i add-count loop-less loop-again loop-less-2 loop-again-2 returns)
+    tie.close (tie.spec Inv-loop μ-loop loop-holds array-read-entry add-i cast-if1 add-count loop-less loop-again loop-less-2 loop-again-2 returns)
