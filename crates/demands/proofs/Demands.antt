@@ -37,10 +37,10 @@ use Rattle.explain.proofs.Answered.{adds-up, lead, as-ranked}
 use Rattle.explain.proofs.Cases as Levels
 use Rattle.exchanges.specs.declared.Exchanges.{Exchanges}
 use Rattle.exchanges.specs.Carrying.{Carries, carrying}
-use Rattle.exchanges.specs.Pairs.{Pair, exchangeAll, Inside, pairsIn}
+use Rattle.exchanges.specs.Pairs.{Pair, pairsOf, exchangeAll, Inside, front, pairsIn}
 use Rattle.exchanges.specs.Between.{Exchanged}
 use Rattle.exchanges.proofs.Carrying.{carries, one-carries}
-use Rattle.exchanges.proofs.Answered.{turns, number, least, none}
+use Rattle.exchanges.proofs.Answered.{literal, turns, number, least, none}
 use Rattle.exchanges.proofs.Cases as Pairs
 use Rattle.cursor.specs.Machine.{Machine, Call, Steps, rowOf, refusalOf, turn, answered, IsStep}
 use Rattle.cursor.specs.Walk.{walkRun, plainRun}
@@ -174,8 +174,16 @@ pub one-carrying : {n : ℕ} {s t : List ℕ} → IsPermutation n s → IsPermut
     → Carries n s t (carrying s t) × ((u : List ℕ) → Carries n s t u → u ≡ carrying s t)
 one-carrying p q = (carries p q, λ u c. one-carries p q c (carries p q))
 
--- of whatever the call for exchanges answers and writes, where it does not refuse: the bytes written, read as pairs, name positions 1 to n, and exchanging the
--- values at them, one pair after another, turns the first permutation into the second
+-- of whatever the call for exchanges answers and writes, where it does not refuse: in the front of the buffer stand pi, i for each i, rising, where the array p of the
+-- permutation u that carries the first to the second has pi other than i, and the bytes after them are as before
+pub entries-moved : {s t before after : List ℕ} {r : Exchanges} → Exchanged s t before r after → r .refusal ≡ 0
+    → {u p : List ℕ}
+    → Carries (length s) s t u
+    → IsArrayOf u p
+    → (r .count ≡ length (pairsOf p)) × (after ≡ front (pairsOf p) before)
+entries-moved = literal
+
+-- the bytes written, read as pairs, name positions 1 to n, and exchanging the values at them, one pair after another, turns the first permutation into the second
 pub turned : {s t before after : List ℕ} {r : Exchanges} → Exchanged s t before r after → r .refusal ≡ 0
     → Inside (length s) (pairsIn (take (r .written) after)) × (exchangeAll (pairsIn (take (r .written) after)) s ≡ t)
 turned = turns

@@ -12,14 +12,17 @@ use Rattle.stirling.specs.Count.{checkSize}
 use Rattle.stirling.proofs.Refusals.{then-passed, then-passes, refuse-passes}
 use Rattle.perm.specs.Permutation.{IsPermutation}
 use Rattle.perm.specs.Cycle.{cycles}
+use Rattle.perm.specs.Array.{IsArrayOf, arrayOf}
 use Rattle.perm.specs.Checks.{checkValues, checkTwice, checkPermutation}
+use Rattle.perm.proofs.ArrayOf.{is-array-of}
 use Rattle.perm.proofs.Refused.{lent-passes}
 use Rattle.perm.proofs.Checked.{checked}
 use Rattle.exchanges.specs.declared.Exchanges.{Exchanges}
-use Rattle.exchanges.specs.Carrying.{Carries}
-use Rattle.exchanges.specs.Pairs.{Pair, exchangeAll, Inside, bytesOf, front, pairsIn}
+use Rattle.exchanges.specs.Carrying.{Carries, carrying}
+use Rattle.exchanges.specs.Pairs.{Pair, pairsOf, exchangeAll, Inside, bytesOf, front, pairsIn}
 use Rattle.exchanges.specs.Between.{pairsBetween, checkRoom, Exchanged}
 use Rattle.exchanges.proofs.Both.{Both, lengths, contents, past-lengths, between-passed}
+use Rattle.exchanges.proofs.Carrying.{carries, one-carries}
 use Rattle.exchanges.proofs.Pairs.{pairs-bytes, take-front, length-front}
 use Rattle.exchanges.proofs.Exchanging.{inside, turned, counted, fewest}
 
@@ -29,6 +32,15 @@ module _ {s t before after : List ℕ} {r : Exchanges} (x : Exchanged s t before
     -- there are two permutations of one n, and the buffer holds the pairs
     passed : Both s t × (2 * length (pairsBetween s t) ≤ length before)
     passed = between-passed s t (length before) (sym (x .refusal) ∙ z)
+
+    -- the pairs are those of any array of any permutation that carries s to t
+    pub literal : {u p : List ℕ} → Carries (length s) s t u → IsArrayOf u p
+        → (r .count ≡ length (pairsOf p)) × (after ≡ front (pairsOf p) before)
+    literal {u} {p} c a =
+        let b = passed .0 in
+        let e : p ≡ arrayOf (length s) (carrying s t) =
+        is-array-of a (c .permutation) ∙ ap (arrayOf (length s)) (one-carries (b .from) (b .to) c (carries (b .from) (b .to))) in
+        rw e (x .count z, x .written z)
 
     -- the bytes written, read as pairs, are the pairs from s to t
     written-pairs : pairsIn (take (r .written) after) ≡ pairsBetween s t
