@@ -114,23 +114,22 @@ module _ {s : List ℕ} (p : IsPermutation (length s) s) (index : List ℕ) (x :
   -- so a value's position is found
   index-position : (v : ℕ) → 1 ≤ v → v ≤ length s → (getD index v 0 < length s) × (getD index v 0 + 1 ≡ position v s)
   index-position v h k =
-      let r = onto p v h k in
-      let e : getD index v 0 ≡ r .0 - 1 = ap (λ (w : ℕ). getD index w 0) (sym (r .3)) ∙ x (r .0 - 1) (omega (arith, r .1, r .2)) in
-      let f : position v s ≡ r .0 = ap (λ (w : ℕ). position w s) (sym (r .3)) ∙ position-at p (r .0) (r .1) (r .2) in
-      (omega (arith, e, r .1, r .2), omega (arith, e, f, r .1))
+      let r = found p v h k in
+      let e : getD index v 0 ≡ position v s - 1 = ap (λ (w : ℕ). getD index w 0) (sym (r .2)) ∙ x (position v s - 1) (omega (arith, r .0, r .1)) in
+      (omega (arith, e, r .0, r .1), omega (arith, e, r .0))
 
   -- for the values of t, a permutation as long
-  module _ {t : List ℕ} (q : IsPermutation (length s) t) (i w : ℕ) (h : i < length t) (e : w ≡ getD t i 0) where
-    pub index-found : (getD index w 0 < length s) × (getD index w 0 + 1 ≡ getD (carrying s t) i 0)
+  module _ {t : List ℕ} (q : IsPermutation (length s) t) (i : ℕ) (h : i < length t) where
+    pub index-found : (getD index (getD t i 0) 0 < length s) × (getD index (getD t i 0) 0 + 1 ≡ getD (carrying s t) i 0)
     unfolding carrying
     index-found =
         let b = value-bound q i (omega (arith, q .size)) in
-        let r = index-position w (omega (arith, e, b .0)) (omega (arith, e, b .1)) in
-        (r .0, r .1 ∙ ap (λ (v : ℕ). position v s) e ∙ sym (getD-map (λ v. position v s) t i h))
+        let r = index-position (getD t i 0) (b .0) (b .1) in
+        (r .0, r .1 ∙ sym (getD-map (λ v. position v s) t i h))
 
     -- one value more of the permutation that carries s to t
     pub carried-step : (u : List ℕ) → i < length u → take i u ≡ take i (carrying s t)
-        → take (i + 1) (set u i (getD index w 0 + 1)) ≡ take (i + 1) (carrying s t)
+        → take (i + 1) (set u i (getD index (getD t i 0) 0 + 1)) ≡ take (i + 1) (carrying s t)
     carried-step u k a =
         let there : i < length (carrying s t) = omega (arith, length-carrying p q, q .size) in
-        rw (add-one, take-suc-set u i (getD index w 0 + 1) k, take-suc (carrying s t) i 0 there, a, index-found .1)
+        rw (add-one, take-suc-set u i (getD index (getD t i 0) 0 + 1) k, take-suc (carrying s t) i 0 there, a, index-found .1)

@@ -35,7 +35,7 @@ found c =
     let pre = b .before .before .before .before .pre in
     let x = b .before .indices in
     let v = value-bound (pre .2) (b .loop .i) (omega (arith, pre .2 .size)) in
-    let at = index-found (pre .1) (x .result) (x .ensures .1) (pre .2) (b .loop .i) _ (omega arith) refl in
+    let at = index-found (pre .1) (x .result) (x .ensures .1) (pre .2) (b .loop .i) (omega arith) in
     (omega (arith, pre .0, v .1), omega (arith, pre .0, at .0))
 
 cast-carrier : tie.Need-cast-carrier Inv-loop μ-loop
@@ -64,7 +64,7 @@ loop-again c =
     let room : b .loop .i < length (b .loop .carrier) = omega (arith, pre .0, pre .2 .size, b .loop .inv .1) in (
       omega arith,
       simp length-set (b .loop .inv .1),
-      carried-step (pre .1) (x .result) (x .ensures .1) (pre .2) (b .loop .i) _ (omega arith) refl (b .loop .carrier) room (b .loop .inv .2),
+      carried-step (pre .1) (x .result) (x .ensures .1) (pre .2) (b .loop .i) (omega arith) (b .loop .carrier) room (b .loop .inv .2),
     )
 
 returns : tie.Need-returns Inv-loop μ-loop
