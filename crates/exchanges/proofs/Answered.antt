@@ -9,7 +9,7 @@ use lib.ListN.{length, take}
 use borrow.Author.Tests.{le-ltb}
 use Rattle.stirling.specs.Refusal.{_then_}
 use Rattle.stirling.specs.Count.{checkSize}
-use Rattle.stirling.proofs.Refusals.{then-passed, then-passes, refuse-passes}
+use Rattle.stirling.proofs.Refusals.{then-passed, refuse-passes}
 use Rattle.perm.specs.Permutation.{IsPermutation}
 use Rattle.perm.specs.Cycle.{cycles}
 use Rattle.perm.specs.Array.{IsArrayOf, arrayOf}
@@ -20,8 +20,8 @@ use Rattle.perm.proofs.Checked.{checked}
 use Rattle.exchanges.specs.declared.Exchanges.{Exchanges}
 use Rattle.exchanges.specs.Carrying.{Carries, carrying}
 use Rattle.exchanges.specs.Pairs.{Pair, pairsOf, exchangeAll, Inside, bytesOf, front, pairsIn}
-use Rattle.exchanges.specs.Between.{pairsBetween, checkRoom, Exchanged}
-use Rattle.exchanges.proofs.Both.{Both, lengths, contents, past-lengths, between-passed}
+use Rattle.exchanges.specs.Between.{pairsBetween, checkLengths, checkContents, checkRoom, Exchanged}
+use Rattle.exchanges.proofs.Both.{Both, between-passed}
 use Rattle.exchanges.proofs.Carrying.{carries, one-carries}
 use Rattle.exchanges.proofs.Pairs.{pairs-bytes, take-front, length-front}
 use Rattle.exchanges.proofs.Exchanging.{inside, turned, counted, fewest}
@@ -85,11 +85,11 @@ unfolding bytesOf
 none {s} {before} {after} {r} e x =
     let d = then-passed (checkSize (length s) then checkValues s) (checkTwice s) e in
     let c = then-passed (checkSize (length s)) (checkValues s) (d .0) in
-    let fit : lengths s s ≡ 0 = rw (c .0) (sym (lent-passes (length s) (length s) refl)) in
-    let held : contents s s ≡ 0 = rw (c .1, d .1) refl in
+    let fit : checkLengths (length s) (length s) ≡ 0 = rw (c .0) (sym (lent-passes (length s) (length s) refl)) in
+    let held : checkContents s s ≡ 0 = rw (c .1, d .1) refl in
     let no = no-pairs (checked s (c .1) (d .1)) in
     let room : checkRoom s s (length before) ≡ 0 = rw no (refuse-passes (ltb (length before) 0) 5 (le-ltb (length before) 0 (omega arith))) in
-    let zero : r .refusal ≡ 0 = x .refusal ∙ past-lengths s s (length before) fit ∙ then-passes (contents s s) (checkRoom s s (length before)) held ∙ room in
+    let zero : r .refusal ≡ 0 = x .refusal ∙ rw (fit, held) room in
     let count : r .count ≡ 0 = x .count zero ∙ ap length no in
     let written : r .written ≡ 0 = x .size zero ∙ ap (λ (y : List Pair). 2 * length y) no in
     (λ i. record { refusal = zero i; count = count i; written = written i }, x .written zero ∙ ap (λ (y : List Pair). front y before) no)

@@ -15,8 +15,8 @@ use Rattle.perm.proofs.ArrayOf.{is-array-of}
 use Rattle.exchanges.specs.declared.Exchanges.{Exchanges}
 use Rattle.exchanges.specs.Carrying.{carrying}
 use Rattle.exchanges.specs.Pairs.{pairsTo, front}
-use Rattle.exchanges.specs.Between.{pairsBetween, checkRoom, checkBetween, Exchanged}
-use Rattle.exchanges.proofs.Both.{Both, lengths, contents, past-lengths}
+use Rattle.exchanges.specs.Between.{pairsBetween, checkLengths, checkContents, checkRoom, checkBetween, Exchanged}
+use Rattle.exchanges.proofs.Both.{Both}
 use Rattle.exchanges.proofs.Carrying.{carries}
 
 -- the pairs of the first entries do not ask for the others
@@ -57,16 +57,22 @@ refused s t before e h w = rw w (record {
   kept = λ _. refl;
 })
 
-module _ (s t before : List ℕ) (fit : lengths s t ≡ 0) where
-  -- that of checks 6 and 7
-  pub refused-contents : {q : ℕ} {r : Exchanges} → q ≡ contents s t → (q ≡ 0 → ⊥) → r ≡ record { refusal = q; count = 0; written = 0 }
-      → Exchanged s t before r before
-  refused-contents e h = refused s t before (then-stops _ _ _ e h ∙ sym (past-lengths s t (length before) fit)) h
+-- that of the lengths
+pub refused-lengths : (s t before : List ℕ) {q : ℕ} {r : Exchanges} → q ≡ checkLengths (length s) (length t) → (q ≡ 0 → ⊥)
+    → r ≡ record { refusal = q; count = 0; written = 0 }
+    → Exchanged s t before r before
+refused-lengths s t before e h = refused s t before (then-stops _ _ _ (then-stops _ _ _ e h) h) h
 
-  module _ (passed : contents s t ≡ 0) {k : ℕ} (number : k ≡ length (pairsBetween s t)) where
+module _ (s t before : List ℕ) (fit : checkLengths (length s) (length t) ≡ 0) where
+  -- that of checks 6 and 7
+  pub refused-contents : {q : ℕ} {r : Exchanges} → q ≡ checkContents s t → (q ≡ 0 → ⊥) → r ≡ record { refusal = q; count = 0; written = 0 }
+      → Exchanged s t before r before
+  refused-contents e h = refused s t before (then-stops _ _ _ (e ∙ sym (then-passes _ _ fit)) h) h
+
+  module _ (passed : checkContents s t ≡ 0) {k : ℕ} (number : k ≡ length (pairsBetween s t)) where
     -- all checks but the last pass
     past-contents : checkBetween s t (length before) ≡ checkRoom s t (length before)
-    past-contents = past-lengths s t (length before) fit ∙ then-passes _ _ passed
+    past-contents = then-passes _ _ (then-passes _ _ fit ∙ passed)
 
     -- the last 5
     pub refused-room : {r : Exchanges} → length before < 2 * k → r ≡ record { refusal = 5; count = 0; written = 0 } → Exchanged s t before r before

@@ -1,7 +1,6 @@
 -- The checks on two permutations: what passes them, and how the refusals of the two make one. Assumes nothing.
-use mathlib.Core.Path.{_≡_, refl, sym, _∙_}
-use Prim.Native.Nat.{ℕ, zero, suc, _*_, _≤_}
-use native.Mathlib.Decide.{ℕ-discrete}
+use mathlib.Core.Path.{_≡_, refl, _∙_}
+use Prim.Native.Nat.{ℕ, _*_, _≤_}
 use mathlib.Core.Bool.{Bool, true, false, not, cond}
 use mathlib.Core.List.{List}
 use lib.Dec.{eqb, ltb}
@@ -16,7 +15,7 @@ use Rattle.perm.specs.Permutation.{IsPermutation}
 use Rattle.perm.specs.Checks.{checkLent, checkValues, checkTwice, checkPermutation}
 use Rattle.perm.proofs.Refused as Refused
 use Rattle.perm.proofs.Checked.{checked}
-use Rattle.exchanges.specs.Between.{pairsBetween, checkRoom, checkBetween}
+use Rattle.exchanges.specs.Between.{pairsBetween, checkLengths, checkContents, checkRoom, checkBetween}
 
 -- two permutations of one n
 pub record Both (s t : List ℕ) : Type 0 where
@@ -25,56 +24,29 @@ pub record Both (s t : List ℕ) : Type 0 where
   pub from : IsPermutation (length s) s
   pub to : IsPermutation (length s) t
 
--- the checks on the lengths
-abbrev pub lengths : List ℕ → List ℕ → ℕ
-lengths s t = checkSize (length s) then checkSize (length t) then checkLent (length s) (length t)
-
--- and on what the two hold
-abbrev pub contents : List ℕ → List ℕ → ℕ
-contents s t = checkValues s then checkValues t then checkTwice s then checkTwice t
-
 -- the lengths that pass
-pub lengths-passed : (s t : List ℕ) → lengths s t ≡ 0 → (length s ≤ 20) × (length t ≡ length s)
-lengths-passed s t e =
-    let b = then-passed (checkSize (length s) then checkSize (length t)) (checkLent (length s) (length t)) e in
-    let a = then-passed (checkSize (length s)) (checkSize (length t)) (b .0) in
-    Refused.lengths-passed (length s) (length t) (then-passes (checkSize (length s)) (checkLent (length s) (length t)) (a .0) ∙ b .1)
+pub lengths-passed : (n m : ℕ) → checkLengths n m ≡ 0 → (n ≤ 20) × (m ≡ n)
+lengths-passed n m e =
+    let b = then-passed (checkSize n then checkSize m) (checkLent n m) e in
+    let a = then-passed (checkSize n) (checkSize m) (b .0) in
+    Refused.lengths-passed n m (then-passes (checkSize n) (checkLent n m) (a .0) ∙ b .1)
 
 -- the permutations that pass
-pub both-passed : (s t : List ℕ) → lengths s t ≡ 0 → contents s t ≡ 0 → Both s t
+pub both-passed : (s t : List ℕ) → checkLengths (length s) (length t) ≡ 0 → checkContents s t ≡ 0 → Both s t
 both-passed s t e f =
     let d = then-passed (checkValues s then checkValues t then checkTwice s) (checkTwice t) f in
     let c = then-passed (checkValues s then checkValues t) (checkTwice s) (d .0) in
     let b = then-passed (checkValues s) (checkValues t) (c .0) in
-    let l = lengths-passed s t e in
+    let l = lengths-passed (length s) (length t) e in
     record { small = l .0; equal = l .1; from = checked s (b .0) (c .1); to = rw (l .1) at (checked t (b .1) (d .1)) }
-
--- the chain of checks from that on the contents on
-module _ (s t : List ℕ) (size : ℕ) where
-  -- is not asked where the lengths are refused
-  lengths-stop : (r : ℕ) → (r ≡ 0 → ⊥)
-      → r then checkValues s then checkValues t then checkTwice s then checkTwice t then checkRoom s t size ≡ r
-  lengths-stop zero h = absurd (h refl)
-  lengths-stop (suc r) h = refl
-
-  -- the lengths refuse
-  pub lengths-refuse : (r : ℕ) → r ≡ lengths s t → (r ≡ 0 → ⊥) → r ≡ checkBetween s t size
-  lengths-refuse r e h = e ∙ sym (lengths-stop (lengths s t) (λ z. h (e ∙ z)))
-
-  -- where they pass, the contents come next, and then the buffer
-  pub past-lengths : lengths s t ≡ 0 → checkBetween s t size ≡ contents s t then checkRoom s t size
-  past-lengths e = rw e
 
 -- what passes all the checks: two permutations of one n, and a buffer for their pairs
 pub between-passed : (s t : List ℕ) (size : ℕ) → checkBetween s t size ≡ 0 → Both s t × (2 * length (pairsBetween s t) ≤ size)
 between-passed s t size e =
-    let fit = by-lengths (ℕ-discrete (lengths s t) 0) in
-    let p = then-passed (contents s t) (checkRoom s t size) (sym (past-lengths s t size fit) ∙ e) in
-    (both-passed s t fit (p .0), ltb-false size (2 * length (pairsBetween s t)) (refuse-passed (ltb size (2 * length (pairsBetween s t))) 4 (p .1)))
-  where
-    by-lengths : Dec (lengths s t ≡ 0) → lengths s t ≡ 0
-    by-lengths (yes z) = z
-    by-lengths (no d) = sym (lengths-stop s t size (lengths s t) d) ∙ e
+    let p = then-passed (checkLengths (length s) (length t) then checkContents s t) (checkRoom s t size) e in
+    let q = then-passed (checkLengths (length s) (length t)) (checkContents s t) (p .0) in
+    let room = refuse-passed (ltb size (2 * length (pairsBetween s t))) 4 (p .1) in
+    (both-passed s t (q .0) (q .1), ltb-false size (2 * length (pairsBetween s t)) room)
 
 -- all of 6 before any of 7
 in-order : (a b c d : Bool) → cond (eqb (refuse b 6 then refuse d 7) 6) 6 ((refuse a 6 then refuse c 7) then (refuse b 6 then refuse d 7))
@@ -95,6 +67,6 @@ repeated s = some (λ v. ltb 1 (tally (eqb v) s)) (positions (length s))
 
 -- the refusals of the two make that of both
 pub either : (s t : List ℕ) (first second : ℕ) → length s ≤ 20 → length t ≤ 20 → first ≡ checkPermutation s → second ≡ checkPermutation t
-    → cond (eqb second 6) 6 (first then second) ≡ contents s t
+    → cond (eqb second 6) 6 (first then second) ≡ checkContents s t
 either s t first second h k f g =
     rw (f, g, size-passes (length s) h, size-passes (length t) k) (in-order (outside s) (outside t) (repeated s) (repeated t))

@@ -4,11 +4,8 @@ use mathlib.Core.Path.{_≡_, refl, sym, ap, _∙_, subst}
 use Prim.Native.Nat.{ℕ, zero, suc, _+_, _≤_}
 use native.Mathlib.Omega.{arith}
 use native.Mathlib.Decide.{ℕ-discrete}
-use mathlib.Core.Bool.{Bool, true, false, cond}
 use mathlib.Core.List.{List, [], _∷_, _++_}
-use lib.Dec.{eqb}
 use lib.ListN.{length}
-use borrow.Author.Tests.{eqb-true}
 use Rattle.perm.specs.Lists.{tally, range, positions}
 use Rattle.perm.specs.Permutation.{IsPermutation, at, exchange, extend}
 use Rattle.perm.specs.Cycle.{cycles}
@@ -21,9 +18,9 @@ use Rattle.perm.proofs.Parity.{exchange-permutation, exchange-near}
 use Rattle.perm.proofs.Arrays.{cycles-product}
 use Rattle.perm.proofs.ArrayOf.{array-of}
 use Rattle.exchanges.specs.Carrying.{multiply, Carries, carrying}
-use Rattle.exchanges.specs.Pairs.{Pair, pairsTo, pairsOf, exchangeAll, Inside}
+use Rattle.exchanges.specs.Pairs.{Pair, pairAt, pairsTo, pairsOf, exchangeAll, Inside}
 use Rattle.exchanges.specs.Between.{pairsBetween}
-use Rattle.exchanges.proofs.Pairs.{given, pairs-number}
+use Rattle.exchanges.proofs.Pairs.{by-entry, pairs-number}
 use Rattle.exchanges.proofs.Carrying.{multiply-exchange, multiply-identity, carries, one-carries}
 
 -- pairs after other pairs
@@ -33,21 +30,17 @@ all-append [] y s = refl
 all-append (a ∷ x) y s = all-append x y (exchange (a .0) (a .1) s)
 
 -- a fixed entry exchanges nothing
-all-given : (p i : ℕ) (s : List ℕ) → exchangeAll (given p i) s ≡ exchange p i s
+all-at : (p : List ℕ) (i : ℕ) (s : List ℕ) → exchangeAll (pairAt p i) s ≡ exchange (at p i) i s
 unfolding exchangeAll
-all-given p i s = by-test (eqb p i) refl
-  where
-    by-test : (b : Bool) → eqb p i ≡ b → exchangeAll (cond b [] ((p, i) ∷ [])) s ≡ exchange p i s
-    by-test true e = let f = eqb-true p i e in rw f (sym (exchange-same i s))
-    by-test false e = refl
+all-at p i s = by-entry (λ x. exchangeAll x s ≡ exchange (at p i) i s) p i (λ e. rw e (sym (exchange-same i s))) (λ d. refl)
 
 -- the pairs of an array, from the identity on, make its product
 all-pairs : (n : ℕ) (p : List ℕ) (m : ℕ) → exchangeAll (pairsTo p m) (positions n) ≡ partial n p m
 unfolding exchangeAll pairsTo partial
 all-pairs n p zero = refl
 all-pairs n p (suc m) =
-    all-append (pairsTo p m) (given (at p (suc m)) (suc m)) (positions n)
-    ∙ all-given (at p (suc m)) (suc m) (exchangeAll (pairsTo p m) (positions n))
+    all-append (pairsTo p m) (pairAt p (suc m)) (positions n)
+    ∙ all-at p (suc m) (exchangeAll (pairsTo p m) (positions n))
     ∙ ap (exchange (at p (suc m)) (suc m)) (all-pairs n p m)
 
 -- pairs of positions after other such pairs
@@ -61,11 +54,13 @@ inside-pairs : {n : ℕ} {p : List ℕ} → IsArray n p → (m : ℕ) → m ≤ 
 unfolding Inside pairsTo
 inside-pairs a zero h = tt
 inside-pairs {n} {p} a (suc m) h =
-    inside-append n (pairsTo p m) (given (at p (suc m)) (suc m)) (inside-pairs a m (omega arith)) (by-test (eqb (at p (suc m)) (suc m)))
-  where
-    by-test : (b : Bool) → Inside n (cond b [] ((at p (suc m), suc m) ∷ []))
-    by-test true = tt
-    by-test false = let r = a .bound (suc m) (omega arith) h in (r .0, omega (arith, r .1), omega arith, h, tt)
+    let r = a .bound (suc m) (omega arith) h in
+    inside-append
+    n
+    (pairsTo p m)
+    (pairAt p (suc m))
+    (inside-pairs a m (omega arith))
+    (by-entry (Inside n) p (suc m) (λ e. tt) (λ d. (r .0, omega (arith, r .1), omega arith, h, tt)))
 
 -- s·u after some pairs is s·w, where w is u after them
 all-multiply : {n : ℕ} (x : List Pair) (s u : List ℕ) → length u ≡ n → Inside n x → exchangeAll x (multiply s u) ≡ multiply s (exchangeAll x u)

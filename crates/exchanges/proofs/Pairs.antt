@@ -4,21 +4,22 @@ use Prim.Native.Nat.{ℕ, zero, suc, _+_, _*_, _-_, _≤_, _<_}
 use native.Mathlib.Numerals.{add-one}
 use native.Mathlib.Nat.{add-zero, add-suc, le-refl}
 use native.Mathlib.Omega.{arith}
-use mathlib.Core.Bool.{Bool, true, false, not, cond}
+use mathlib.Core.Bool.{not}
 use mathlib.Core.List.{List, [], _∷_, _++_, append-nil}
 use lib.Dec.{eqb}
 use lib.ListN.{length, getD, take, drop, set, length-append, length-drop}
 use lib.Seq.{sets-eq, take-at, drop-append-add, drop-drop}
-use borrow.Author.Tests.{eq-eqb, ne-eqb}
+use borrow.Table.Steps.{cases}
+use borrow.Author.Tests.{eqb-true, eqb-false, eq-eqb, ne-eqb}
 use Rattle.perm.specs.Lists.{one, tally, range, positions}
 use Rattle.perm.specs.Permutation.{at}
 use Rattle.perm.proofs.Tally.{tally-positions, tally-not, length-range}
 use Rattle.perm.proofs.Values.{at-suc}
-use Rattle.exchanges.specs.Pairs.{Pair, pairsTo, bytesOf, front, pairsIn}
+use Rattle.exchanges.specs.Pairs.{Pair, pairAt, pairsTo, bytesOf, front, pairsIn}
 
--- what entry i of an array gives: no pair if it is i, and else one
-abbrev pub given : ℕ → ℕ → List Pair
-given p i = cond (eqb p i) [] ((p, i) ∷ [])
+-- what holds of no pair where an entry is fixed, and of its pair where it is not, holds of what the entry gives
+pub by-entry : (P : List Pair → Type 0) (p : List ℕ) (i : ℕ) → (at p i ≡ i → P []) → ((at p i ≡ i → ⊥) → P ((at p i, i) ∷ [])) → P (pairAt p i)
+by-entry P p i fixed moved = cases (eqb (at p i) i) (λ t. rw t (fixed (eqb-true (at p i) i t))) (λ f. rw f (moved (eqb-false (at p i) i f)))
 
 -- an entry that is not fixed gives one
 pub pairs-moved : (p : List ℕ) (i : ℕ) → (getD p i 0 ≡ i + 1 → ⊥) → pairsTo p (i + 1) ≡ pairsTo p i ++ ((getD p i 0, i + 1) ∷ [])
@@ -39,13 +40,12 @@ pub length-pairs : (p : List ℕ) (m : ℕ) → length (pairsTo p m) ≡ tally (
 unfolding pairsTo tally range
 length-pairs p zero = refl
 length-pairs p (suc m) =
-    length-append (pairsTo p m) (given (at p (suc m)) (suc m))
-    ∙ ap₂ _+_ (length-pairs p m) (by-test (eqb (at p (suc m)) (suc m)))
+    length-append (pairsTo p m) (pairAt p (suc m))
+    ∙ ap₂ _+_ (length-pairs p m) (by-entry counts p (suc m) (λ e. rw (eq-eqb (at p (suc m)) (suc m) e)) (λ d. rw (ne-eqb (at p (suc m)) (suc m) d)))
     ∙ sym (tally-positions (λ i. not (eqb (at p i) i)) m)
   where
-    by-test : (b : Bool) → length {A = Pair} (cond b [] ((at p (suc m), suc m) ∷ [])) ≡ one (not b)
-    by-test true = refl
-    by-test false = refl
+    counts : List Pair → Type 0
+    counts x = length x ≡ one (not (eqb (at p (suc m)) (suc m)))
 
 -- the pairs and the fixed entries are as many as the entries
 pub pairs-number : (p : List ℕ) (m : ℕ) → length (pairsTo p m) + tally (λ i. eqb (at p i) i) (positions m) ≡ m
@@ -61,7 +61,7 @@ unfolding pairsTo
 pairs-more p m zero = rw (add-zero m) (le-refl (length (pairsTo p m)))
 pairs-more p m (suc d) =
     rw (add-suc m d)
-    (omega (arith, pairs-more p m d, length-append (pairsTo p (m + d)) (given (at p (suc (m + d))) (suc (m + d)))))
+    (omega (arith, pairs-more p m d, length-append (pairsTo p (m + d)) (pairAt p (suc (m + d)))))
 
 -- so a pair that is still to come is one of all
 pub pairs-room : (p : List ℕ) (i n : ℕ) → i < n → (getD p i 0 ≡ i + 1 → ⊥) → length (pairsTo p i) + 1 ≤ length (pairsTo p n)

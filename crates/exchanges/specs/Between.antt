@@ -16,21 +16,21 @@ use Rattle.exchanges.specs.Pairs.{Pair, pairsOf, front}
 abbrev pub pairsBetween : List ℕ → List ℕ → List Pair
 pairsBetween s t = pairsOf (arrayOf (length s) (carrying s t))
 
--- the last check 5: a buffer shorter than twice the count
+-- 1 for either of two permutations of n and m values, then 5 for unequal lengths
+abbrev pub checkLengths : ℕ → ℕ → ℕ
+checkLengths n m = checkSize n then checkSize m then checkLent n m
+
+-- 6 for either, then 7 for either
+abbrev pub checkContents : List ℕ → List ℕ → ℕ
+checkContents s t = checkValues s then checkValues t then checkTwice s then checkTwice t
+
+-- 5 for a buffer shorter than twice the count
 abbrev pub checkRoom : List ℕ → List ℕ → ℕ → ℕ
 checkRoom s t size = refuse (ltb size (2 * length (pairsBetween s t))) 5
 
--- the checks in their order: 1 for either, 5 for unequal lengths, 6 for either, 7 for either, and last 5 for the buffer
+-- the checks in their order: 1, 5 for unequal lengths, 6, 7, and last 5 for the buffer
 abbrev pub checkBetween : List ℕ → List ℕ → ℕ → ℕ
-checkBetween s t size =
-    checkSize (length s)
-    then checkSize (length t)
-    then checkLent (length s) (length t)
-    then checkValues s
-    then checkValues t
-    then checkTwice s
-    then checkTwice t
-    then checkRoom s t size
+checkBetween s t size = checkLengths (length s) (length t) then checkContents s t then checkRoom s t size
 
 -- the pairs from s to t in the front of a buffer that held `before` and then holds `after`, with the answer r: their number, and twice it as the number of bytes
 -- written; the bytes after them stay. Or a refusal with zeros, and every byte stays

@@ -10,10 +10,14 @@ use Rattle.perm.specs.Permutation.{at, exchange}
 abbrev pub Pair : Type 0
 Pair = ℕ × ℕ
 
--- pi, i for each i up to m, rising, where the array p has pi other than i
+-- the pair pi, i, where the array p has pi other than i, and else none
+abbrev pub pairAt : List ℕ → ℕ → List Pair
+pairAt p i = cond (eqb (at p i) i) [] ((at p i, i) ∷ [])
+
+-- such pairs for each i up to m, rising
 unfoldable pub pairsTo : List ℕ → ℕ → List Pair
 pairsTo p zero = []
-pairsTo p (suc m) = pairsTo p m ++ cond (eqb (at p (suc m)) (suc m)) [] ((at p (suc m), suc m) ∷ [])
+pairsTo p (suc m) = pairsTo p m ++ pairAt p (suc m)
 
 -- and for each i of the array
 abbrev pub pairsOf : List ℕ → List Pair

@@ -8,13 +8,11 @@ ghost use mathlib.Core.Bool.{cond};
 ghost use lib.Dec.{eqb};
 ghost use lib.ListN.{length, getD, take};
 ghost use Rattle.stirling.specs.Refusal.{_then_};
-ghost use Rattle.stirling.specs.Count.{checkSize};
 ghost use Rattle.perm.specs.Permutation.{IsPermutation};
 ghost use Rattle.perm.specs.Array.{IsArrayOf};
-ghost use Rattle.perm.specs.Checks.{checkLent, checkValues, checkTwice};
 ghost use Rattle.exchanges.specs.Carrying.{carrying};
 ghost use Rattle.exchanges.specs.Pairs.{pairsTo, front};
-ghost use Rattle.exchanges.specs.Between.{Exchanged};
+ghost use Rattle.exchanges.specs.Between.{checkLengths, checkContents, Exchanged};
 
 // How many pairs of positions are exchanged, and how many bytes they were written to. Zeros on a refusal.
 #[repr(C)]
@@ -37,7 +35,7 @@ fn refused(refusal: u8) -> Exchanges
 
 // The checks on the lengths of two permutations: 1 for either, then 5.
 fn check_lengths(from: usize, to: usize) -> u8
-    ensures { λ r. ⌜ r ≡ checkSize from then checkSize to then checkLent from to ⌝ }
+    ensures { λ r. ⌜ r ≡ checkLengths from to ⌝ }
 {
     let from_size = stirling::check_size(from as u64);
     if from_size != 0 {
@@ -69,11 +67,7 @@ fn first_refusal(first: u8, second: u8) -> u8
 // The checks 6 and 7 on two permutations that check 1 passes, all of 6 before any of 7.
 fn check_contents(from: &[u8], to: &[u8]) -> u8
     requires { ⌜ (length (now from) ≤ 20) × (length (now to) ≤ 20) ⌝ }
-    ensures { λ r. ⌜ r
-        ≡ checkValues (now (from .entry))
-        then checkValues (now (to .entry))
-        then checkTwice (now (from .entry))
-        then checkTwice (now (to .entry)) ⌝ }
+    ensures { λ r. ⌜ r ≡ checkContents (now (from .entry)) (now (to .entry)) ⌝ }
 {
     let first = perm::check_permutation(from);
     let second = perm::check_permutation(to);

@@ -6,10 +6,10 @@ use native.Mathlib.Omega.{arith}
 use mathlib.Core.List.{List}
 use lib.ListN.{length}
 use Rattle.exchanges.specs.Pairs.{Pair, pairsTo, front}
-use Rattle.exchanges.specs.Between.{pairsBetween}
-use Rattle.exchanges.proofs.Both.{Both, lengths, contents, lengths-passed, both-passed, lengths-refuse}
+use Rattle.exchanges.specs.Between.{pairsBetween, checkLengths, checkContents}
+use Rattle.exchanges.proofs.Both.{Both, lengths-passed, both-passed}
 use Rattle.exchanges.proofs.Pairs.{pairs-few}
-use Rattle.exchanges.proofs.Answers.{carrier-permutation, pairs-between, refused, refused-contents, refused-room, served}
+use Rattle.exchanges.proofs.Answers.{carrier-permutation, pairs-between, refused-lengths, refused-contents, refused-room, served}
 use Rattle.exchanges.proofs.between.Statement.{statement}
 use Rattle.exchanges.proofs.between.Tie as tie
 
@@ -23,17 +23,16 @@ returns : tie.Need-returns
 returns c =
     let w = c .before .before in
     let a = w .before .before .before .before .args in
-    let e = lengths-refuse (a .from .now) (a .to .now) (length (a .out .now)) _ (w .check-lengths .ensures) (c .before .if1 .taken) in
-    refused (a .from .now) (a .to .now) (a .out .now) e (c .before .if1 .taken) (c .refused .ensures)
+    refused-lengths (a .from .now) (a .to .now) (a .out .now) (w .check-lengths .ensures) (c .before .if1 .taken) (c .refused .ensures)
 
 -- past the lengths
-fit : (c : tie.Else1) → let a = c .before .before .before .before .before .args in lengths (a .from .now) (a .to .now) ≡ 0
+fit : (c : tie.Else1) → let a = c .before .before .before .before .before .args in checkLengths (length (a .from .now)) (length (a .to .now)) ≡ 0
 fit c = sym (c .before .check-lengths .ensures) ∙ c .if1 .left
 
 check-contents-requires : tie.Need-check-contents-requires
 check-contents-requires c κs =
     let a = c .before .before .before .before .before .args in
-    let l = lengths-passed (a .from .now) (a .to .now) (fit c) in
+    let l = lengths-passed (length (a .from .now)) (length (a .to .now)) (fit c) in
     (l .0, omega (arith, l .0, l .1))
 
 refused-requires-2 : tie.Need-refused-requires-2
@@ -52,7 +51,7 @@ from c = c .before .before .before .before .before .before .before .args .from .
 abbrev to : tie.Else2 → List ℕ
 to c = c .before .before .before .before .before .before .before .args .to .now
 
-passed : (c : tie.Else2) → contents (from c) (to c) ≡ 0
+passed : (c : tie.Else2) → checkContents (from c) (to c) ≡ 0
 passed c = sym (c .before .check-contents .ensures) ∙ c .if2 .left
 
 both : (c : tie.Else2) → Both (from c) (to c)
