@@ -1,12 +1,12 @@
--- The request's demands 2 and 3 as theorems, and what document 02, b) and c), add, to be read from top to bottom beside them. Each is a law of a crate below, stated
+-- The request's demands 2 and 3 as theorems, and what document 02, b), c) and d), add, to be read from top to bottom beside them. Each is a law of a crate below, stated
 -- in full here so that nothing has to be looked up but the definitions in specs/. What demand 1 asks is met by the proofs of the functions themselves
 -- (docs/DEMANDS.md says how). Assumes nothing.
 use mathlib.Core.Path.{_≡_, _∙_, sym}
-use Prim.Native.Nat.{ℕ, suc, _+_, _≤_, _<_, _^_}
+use Prim.Native.Nat.{ℕ, suc, _+_, _-_, _*_, _≤_, _<_, _^_}
 use mathlib.Core.Bool.{Bool, false}
-use mathlib.Core.List.{List, _∷_}
+use mathlib.Core.List.{List, _∷_, _++_}
 use lib.Dec.{eqb}
-use lib.ListN.{length, take}
+use lib.ListN.{length, getD, take}
 use Rattle.stirling.specs.Count.{c, countOf, checkCycles, checkPlace}
 use Rattle.stirling.proofs.Counts.{cycles-passes, cycles-passed, fits}
 use Rattle.perm.specs.Lists.{tally, positions}
@@ -16,15 +16,20 @@ use Rattle.perm.specs.Array.{IsArray, IsArrayOf, product, position}
 use Rattle.perm.specs.Checks.{checkPermutation}
 use Rattle.perm.proofs.Arrays.{product-permutation, has-array, one-array, cycles-product}
 use Rattle.perm.proofs.Apart as Apart
+use Rattle.gray.specs.declared.Block.the-variants.{Extend as E}
 use Rattle.gray.specs.Order.{Row, S, letter}
+use Rattle.gray.specs.Blocks.{blocks}
 use Rattle.gray.specs.Listing.{HasCycles, Complete, Neighbours, Closed}
 use Rattle.gray.proofs.Once as Once
 use Rattle.gray.proofs.Neighbours as Neighbours
 use Rattle.gray.proofs.Cases as Cases
-use Rattle.rank.specs.Search.{cyclesOf}
-use Rattle.rank.specs.Descent.{step, blockWith, shorter}
+use Rattle.rank.specs.Search.{readingOf, cyclesOf, sizeOf, blocksRead, rowsRead, before}
+use Rattle.rank.specs.Descent.{step, blockWith, shorter, passed}
 use Rattle.rank.specs.Place.{Unranked, Ranked}
 use Rattle.rank.specs.declared.Standing.{Standing}
+use Rattle.rank.proofs.Starts.{before-none, before-suc}
+use Rattle.rank.proofs.Around.{starts-at}
+use Rattle.rank.proofs.Passed.{enough}
 use Rattle.rank.proofs.RoundTrip.{place-back, permutation-back}
 use Rattle.explain.specs.declared.Level.{Level}
 use Rattle.explain.specs.declared.Explanation.{Explanation}
@@ -211,3 +216,23 @@ equal-none = none
 -- examples
 pub pair-cases : Pairs.Table
 pair-cases = Pairs.table
+
+-- ---- Document 02, d): the running start of a block, `before`: the sum of the sizes of the blocks before it in the reading at hand
+
+-- going on to the next block adds one count to it: the size of the block that is passed
+pub next-block : (n k : ℕ) (backward : Bool) (j : ℕ) → j < length (blocks n k)
+    → (before n k backward 0 ≡ 0)
+    × (before n k backward (suc j) ≡ before n k backward j + sizeOf n k (getD (blocksRead n k backward) j (E 0)))
+next-block n k backward j l = (before-none n k backward, before-suc n k backward j l)
+
+-- it is the number of rows before the block in the reading at hand: the list, as it is read, is so many rows, then the rows of the block, read that way too, then others
+pub start-of-block : (n k : ℕ) (backward : Bool) (j : ℕ) → 1 ≤ n → j < length (blocks n k)
+    → (earlier : List Row) × (later : List Row)
+    × (readingOf backward n k ≡ earlier ++ (rowsRead n k backward (getD (blocksRead n k backward) j (E 0)) ++ later))
+    × (length earlier ≡ before n k backward j)
+start-of-block = starts-at
+
+-- the additions that find a permutation, or its place, one for each block passed at each size (`passed`; the contracts of the two descents say that they make so many):
+-- n×(n−1)÷2 in all are enough
+pub additions-enough : (n k : ℕ) (backward : Bool) (s : Row) → HasCycles n k s → 2 * passed n k backward s ≤ n * (n - 1)
+additions-enough = enough

@@ -3,13 +3,14 @@ use mathlib.Core.Path.{_≡_, refl}
 use Prim.Native.Nat.{ℕ}
 use mathlib.Core.Bool.{true, false}
 use mathlib.Core.List.{[], _∷_}
+use Rattle.stirling.specs.Count.{c as count}
 use Rattle.perm.specs.Lists.{tally, range}
-use Rattle.perm.specs.Permutation.{extend, insert, exchange}
+use Rattle.perm.specs.Permutation.{exchange}
 use Rattle.perm.specs.Cycle.{follow, least, cycles}
 use Rattle.perm.specs.Array.{position}
-use Rattle.gray.specs.Order.{S, relation, relationA, relationB, relationC, relationD, relationE, letter, joined, rows, reading, odd, rising, falling}
-use Rattle.gray.specs.Blocks.{blocksOfA, blocksOf, blocks}
-use Rattle.rank.specs.Search.{numberIn, before}
+use Rattle.gray.specs.Order.{letter, odd, rising, falling}
+use Rattle.gray.specs.Blocks.{blocksOfA, blocksOf, blocks, numberIn}
+use Rattle.rank.specs.Search.{sizes, before}
 use Rattle.explain.specs.declared.Level.{Level}
 use Rattle.rank.specs.Descent.{steps}
 use Rattle.explain.specs.Levels.{lettered, total}
@@ -56,8 +57,7 @@ pub record Table : Type 0 where
   pub sum-38 : total (rowsOf (3 ∷ 1 ∷ 4 ∷ 2 ∷ 5 ∷ [])) ≡ 38
 
 pub table : Table
-unfolding steps lettered total numberIn before cycles least follow position exchange blocks blocksOf blocksOfA
-    S relation relationA relationB relationC relationD relationE letter joined rows reading odd rising falling range tally insert extend
+unfolding steps lettered total numberIn before sizes count cycles least follow position exchange blocks blocksOf blocksOfA letter odd rising falling range tally
 table =
     record {
       none = refl;

@@ -14,11 +14,11 @@ use Rattle.gray.specs.declared.Block.the-variants.{Insert as I, Extend as E}
 use Rattle.gray.specs.declared.Letter.{Letter}
 use Rattle.gray.specs.declared.Letter.the-variants.{Nothing as none, A as by-a, B as by-b, C as by-c, D as by-d, E as by-e}
 use Rattle.gray.specs.Order.{Row, letter}
-use Rattle.gray.specs.Blocks.{blocksOf, blocks}
+use Rattle.gray.specs.Blocks.{blocksOf, blocks, positionOf, numberOf}
 use Rattle.gray.specs.Listing.{HasCycles}
 use Rattle.gray.proofs.InPlace.{InPlace, in-place}
-use Rattle.rank.specs.Search.{grown, positionOf, cyclesOf, backwardOf, numberOf}
-use Rattle.rank.specs.Descent.{blockWith, turned, shorter, steps}
+use Rattle.rank.specs.Search.{grown, cyclesOf, backwardOf, turned}
+use Rattle.rank.specs.Descent.{blockWith, shorter, steps}
 use Rattle.rank.proofs.Grown.{grown-insert, grown-extend}
 use Rattle.rank.proofs.Without as Without
 use Rattle.rank.proofs.Found.{found, left}

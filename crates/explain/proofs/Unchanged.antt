@@ -4,19 +4,20 @@ use mathlib.Core.Path.{_≡_, refl, ap, _∙_}
 use mathlib.Core.Logic.{_⊎_, inl, inr}
 use Prim.Native.Nat.{ℕ, zero, suc, _≤_, _<_}
 use native.Mathlib.Omega.{arith}
-use mathlib.Core.Bool.{Bool, true, false}
+use mathlib.Core.Bool.{Bool, false}
 use mathlib.Core.List.{List, [], _∷_}
 use lib.ListN.{length}
 use Rattle.perm.specs.Array.{position}
 use Rattle.gray.specs.declared.Block.{Block}
 use Rattle.gray.specs.declared.Block.the-variants.{Insert as I, Extend as E}
-use Rattle.gray.specs.Order.{Row, odd, joined, letter}
-use Rattle.gray.specs.Blocks.{blocksOfA, blocksOf, blocks}
+use Rattle.gray.specs.Order.{Row, odd, letter}
+use Rattle.gray.specs.Blocks.{blocksOfA, blocksOf, blocks, numberOf}
 use Rattle.gray.specs.Listing.{HasCycles}
 use Rattle.gray.proofs.Indexed.{block}
 use Rattle.gray.proofs.Which.{Which, is-none, is-a, is-b, is-c, is-d, is-e, which}
-use Rattle.rank.specs.Search.{cyclesOf, backwardOf, numberOf, before}
-use Rattle.rank.specs.Descent.{step, blockWith, turned, shorter, steps}
+use Rattle.rank.specs.Search.{cyclesOf, backwardOf, turned, before, numberRead}
+use Rattle.rank.specs.Descent.{step, blockWith, shorter, steps}
+use Rattle.rank.proofs.Starts.{before-none, number-inside}
 use Rattle.rank.proofs.Found.{found}
 use Rattle.explain.specs.Levels.{letterByte, level, lettered, levels}
 
@@ -55,12 +56,6 @@ one-block n k h (inr p) (is-d _ q l) = absurd (omega arith)
 one-block n k h (inl p) (is-e _ q l) = absurd (omega arith)
 one-block n k h (inr p) (is-e _ q l) = absurd (omega arith)
 
--- no row stands before an only block, in either reading
-none-before : (n k : ℕ) (backward : Bool) → One (blocks n k) → before n k backward 0 ≡ 0
-unfolding before joined
-none-before n k false w = refl
-none-before n k true w = rw (w .is)
-
 -- the row of a size without a choice: block 0 and 0 before; and the reading passes down unchanged
 pub no-choice : {m k : ℕ} {s : Row} (backward : Bool) → NoChoice (suc m) k → HasCycles (suc m) k s
     → levels (suc m) k backward s
@@ -72,7 +67,8 @@ no-choice {m} {k} {s} backward choice w =
     let i = position n s in
     let one = one-block n k (omega arith) choice (which n k) in
     let number : numberOf n k i ≡ 0 = omega (arith, found w .0, ap length (one .is)) in
-    let rows : before n k backward (numberOf n k i) ≡ 0 = ap (before n k backward) number ∙ none-before n k backward one in
+    let first : numberRead n k backward (numberOf n k i) ≡ 0 = omega (arith, number-inside n k backward (numberOf n k i) (found w .0), ap length (one .is)) in
+    let rows : before n k backward (numberRead n k backward (numberOf n k i)) ≡ 0 = ap (before n k backward) first ∙ before-none n k backward in
     let forward : backwardOf (blockWith n k i) ≡ false =
     ap (λ (j : ℕ). backwardOf (block (blocks n k) j)) number ∙ ap (λ (bs : List Block). backwardOf (block bs 0)) (one .is) ∙ one .forward in
     λ t. record { letter = letterByte (letter n k); backward = backward; block = number t; before = rows t }

@@ -11,8 +11,7 @@ use Rattle.gray.specs.declared.Block.the-variants.{Insert as I, Extend as E}
 use Rattle.gray.specs.declared.Letter.{Letter}
 use Rattle.gray.specs.Order.{Row}
 use Rattle.gray.specs.Blocks.{blocksOf}
-use Rattle.rank.specs.Search.{cyclesOf, backwardOf}
-use Rattle.rank.specs.Descent.{turned}
+use Rattle.rank.specs.Search.{cyclesOf, backwardOf, turned}
 use Rattle.explain.specs.declared.Level.{Level}
 use Rattle.explain.specs.Levels.{letterByte}
 

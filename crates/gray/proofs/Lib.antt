@@ -2,6 +2,7 @@ pub mod Which
 pub mod Joined
 pub mod Indexed
 pub mod InPlace
+pub mod Numbered
 pub mod Sum
 pub mod Counting
 pub mod Same

@@ -6,6 +6,7 @@ use native.Mathlib.Omega.{arith}
 use mathlib.Core.Bool.{Bool, true, false}
 use lib.Dec.{eqb, ltb}
 use borrow.Author.Tests.{eqb-true, eqb-false, ltb-true, ltb-false}
+use Rattle.gray.specs.declared.Letter.{Letter}
 use Rattle.gray.specs.declared.Letter.the-variants.{Nothing as none, A as by-a, B as by-b, C as by-c, D as by-d, E as by-e}
 use Rattle.gray.specs.Order.{letter}
 
@@ -53,3 +54,23 @@ by-tests n k false false false false false false pz pm po pa pc pd =
 -- one of these applies
 pub which : (n k : ℕ) → Which n k
 which n k = by-tests n k (eqb k 0) (ltb n k) (eqb k 1) (eqb k n) (eqb (k + 1) n) (eqb (k + 2) n) refl refl refl refl refl refl
+
+-- what a letter says of n and k, where the relation asks for it
+abbrev pub Says : Letter → ℕ → ℕ → Type 0
+Says none n k = Unit
+Says by-a n k = Unit
+Says by-b n k = Unit
+Says by-c n k = 3 ≤ n
+Says by-d n k = 4 ≤ n
+Says by-e n k = (2 ≤ k) × (k + 3 ≤ n)
+
+says : (n k : ℕ) → Which n k → Says (letter n k) n k
+says n k (is-none e _) = rw e tt
+says n k (is-a e _ _) = rw e tt
+says n k (is-b e _ _) = rw e tt
+says n k (is-c e _ h) = rw e h
+says n k (is-d e _ h) = rw e h
+says n k (is-e e h l) = rw e (h, l)
+
+pub said : (n k : ℕ) {l : Letter} → letter n k ≡ l → Says l n k
+said n k e = rw e at (says n k (which n k))

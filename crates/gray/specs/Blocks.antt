@@ -29,3 +29,17 @@ blocksOf by-e n k = blocksE n k
 
 unfoldable pub blocks : ℕ → ℕ → List Block
 blocks n k = blocksOf (letter n k) n k
+
+-- the position at which the rows of a block of S(n,k) have value n: i for I(i,[L]e), and n for E([M]e)
+abbrev pub positionOf : ℕ → Block → ℕ
+positionOf n (I i e) = i
+positionOf n (E e) = n
+
+-- of some blocks, the number of the first that puts value n at position i, counted from 0; where none does, how many they are
+unfoldable pub numberIn : ℕ → ℕ → List Block → ℕ
+numberIn n i [] = 0
+numberIn n i (b ∷ bs) = cond (eqb (positionOf n b) i) 0 (suc (numberIn n i bs))
+
+-- document 02's number of a block, "from 0 in written order": of the block of S(n,k) that puts value n at position i
+abbrev pub numberOf : ℕ → ℕ → ℕ → ℕ
+numberOf n k i = numberIn n i (blocks n k)

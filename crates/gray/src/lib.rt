@@ -3,9 +3,9 @@ ghost use mathlib.Core.Path.{_≡_};
 ghost use mathlib.Core.Bool.{cond};
 ghost use Prim.Native.Nat.{_+_, _≤_, _<_};
 ghost use lib.Dec.{eqb};
-ghost use lib.ListN.{getD};
+ghost use lib.ListN.{length, getD};
 ghost use Rattle.gray.specs.Order.{letter, blocksC3, blocksC, blocksD, blocksE};
-ghost use Rattle.gray.specs.Blocks.{blocksOfA, blocks};
+ghost use Rattle.gray.specs.Blocks.{blocksOfA, blocks, numberIn, numberOf};
 
 // A block of a relation. `Insert { position: i, reading: e }` is document 01's I(i,[L]e), and `Extend { reading: e }` its E([M]e):
 // L = S(n-1,k) and M = S(n-1,k-1), read forward for even e and backward for odd e.
@@ -217,5 +217,116 @@ pub fn block_at(n: u64, k: u64, j: u64) -> Block
         Letter::C => block_c(n, j),
         Letter::D => block_d(n, j),
         Letter::E => block_e(n, k, j),
+    }
+}
+
+// How many blocks S(n,k) has.
+pub fn block_count(n: u64, k: u64) -> u64
+    ensures { λ r. ⌜ r ≡ length (blocks n k) ⌝ }
+{
+    if k == 0 {
+        return 0;
+    }
+    if k > n {
+        return 0;
+    }
+    if n == k {
+        return 1;
+    }
+    if k < 2 {
+        return n - 1;
+    }
+    n
+}
+
+// The number of the block of relation (a) that puts value n at position i; n-1 where none does.
+fn number_a(n: u64, i: u64) -> u64
+    requires { ⌜ (1 ≤ i) × (i ≤ n) ⌝ }
+    ensures { λ r. ⌜ r ≡ numberIn n i (blocksOfA n) ⌝ }
+{
+    if n < 5 {
+        return i - 1;
+    }
+    if i == 1 {
+        return 0;
+    }
+    if i < 4 {
+        return n - 5 + i;
+    }
+    if i == n {
+        return n - 1;
+    }
+    n - i
+}
+
+// The number of the block of relation (c) that puts value n at position i.
+fn number_c(n: u64, i: u64) -> u64
+    requires { ⌜ (3 ≤ n) × (1 ≤ i) × (i ≤ n) ⌝ }
+    ensures { λ r. ⌜ r ≡ numberIn n i (cond (eqb n 3) blocksC3 (blocksC n)) ⌝ }
+{
+    if i == 1 {
+        return 0;
+    }
+    if i == n {
+        return n - 1;
+    }
+    if i + 1 == n {
+        return 1;
+    }
+    if i + 2 == n {
+        return n - 2;
+    }
+    n - 1 - i
+}
+
+// The number of the block of relation (d) that puts value n at position i.
+fn number_d(n: u64, i: u64) -> u64
+    requires { ⌜ (4 ≤ n) × (1 ≤ i) × (i ≤ n) ⌝ }
+    ensures { λ r. ⌜ r ≡ numberIn n i (blocksD n) ⌝ }
+{
+    if i == 1 {
+        return 0;
+    }
+    if i == 2 {
+        return n - 1;
+    }
+    i - 2
+}
+
+// The number of the block of relation (e) that puts value n at position i.
+fn number_e(n: u64, k: u64, i: u64) -> u64
+    requires { ⌜ (2 ≤ k) × (k + 3 ≤ n) × (1 ≤ i) × (i ≤ n) ⌝ }
+    ensures { λ r. ⌜ r ≡ numberIn n i (blocksE n k) ⌝ }
+{
+    if i == 1 {
+        return 0;
+    }
+    if i == n {
+        return n - k;
+    }
+    if i > k {
+        return n - i;
+    }
+    n - i + 1
+}
+
+// The number, from 0 in written order, of the block of S(n,k) that puts value n at position i; where none does, the number of blocks. No block is made to be looked at.
+pub fn block_number(n: u64, k: u64, i: u64) -> u64
+    ensures { λ r. ⌜ r ≡ numberOf n k i ⌝ }
+{
+    if i == 0 {
+        return block_count(n, k);
+    }
+    if i > n {
+        return block_count(n, k);
+    }
+    let letter = letter_of(n, k);
+    match letter {
+        Letter::Nothing => 0,
+        Letter::A => number_a(n, i),
+        Letter::B => if i == n { 0 } else { 1 },
+        Letter::C => number_c(n, i),
+        Letter::D => number_d(n, i),
+        Letter::E => number_e(n, k, i),
     }
 }

@@ -229,11 +229,11 @@ unfolding product partial range
 made-none e = record { size = e; bound = omega arith; front = refl }
 
 -- the value m + 1 put in at index j, whose own value goes to index m: the first m + 1 are E or I of the first m
-extended-at : (out : List ℕ) (m y : ℕ) → m < length out → take (suc m) (set (set out m y) m (suc m)) ≡ extend (suc m) (take m out)
+pub extended-at : (out : List ℕ) (m y : ℕ) → m < length out → take (suc m) (set (set out m y) m (suc m)) ≡ extend (suc m) (take m out)
 unfolding extend
 extended-at out m y h = rw (set-set out m y (suc m)) (take-suc-set out m (suc m) h)
 
-inserted-at : (out : List ℕ) (m j : ℕ) → m < length out → j < m
+pub inserted-at : (out : List ℕ) (m j : ℕ) → m < length out → j < m
     → take (suc m) (set (set out m (getD out j 0)) j (suc m)) ≡ insert (suc m) (suc j) (take m out)
 unfolding insert
 inserted-at out m j h l =

@@ -1,5 +1,5 @@
 -- Of the blocks of S(n,k) at most one extends, at an index that n and k give; the others insert. Assumes nothing.
-use mathlib.Core.Path.{_≡_, refl}
+use mathlib.Core.Path.{_≡_, refl, sym, ap, _∙_}
 use Prim.Native.Nat.{ℕ, zero, suc, _+_, _-_, _≤_, _<_}
 use native.Mathlib.Omega.{arith}
 use mathlib.Core.Bool.{Bool, true, false, cond}
@@ -13,7 +13,8 @@ use Rattle.gray.specs.Order.{rising, falling, blocksC3, blocksC}
 use Rattle.gray.specs.Blocks.{blocksOfA, blocksOf, blocks}
 use Rattle.gray.proofs.Which.{Which, is-none, is-a, is-b, is-c, is-d, is-e, which}
 use Rattle.gray.proofs.Indexed.{block}
-use Rattle.rank.specs.Search.{sourceOf, ExtendsAt}
+use Rattle.rank.specs.Search.{cyclesOf, numberRead, ExtendsAt}
+use Rattle.rank.proofs.Starts.{number-inside, number-back, block-read}
 
 -- every block inserts
 data Inserts : List Block → Type 0 where
@@ -27,20 +28,20 @@ data Extends : ℕ → List Block → Type 0 where
   later : {x i e : ℕ} {bs : List Block} → Extends x bs → Extends (suc x) (I i e ∷ bs)
 
 -- what a block is made from, by its index
-module _ (n k r : ℕ) where
-  inserting : {bs : List Block} → Inserts bs → (j : ℕ) → j < length bs → sourceOf n k (block bs j) r .cycles ≡ k
+module _ (k : ℕ) where
+  inserting : {bs : List Block} → Inserts bs → (j : ℕ) → j < length bs → cyclesOf k (block bs j) ≡ k
   inserting no-more j h = absurd (omega arith)
   inserting (one-more p) zero h = refl
   inserting (one-more p) (suc j) h = inserting p j (omega arith)
 
-  extended : {x : ℕ} {bs : List Block} → Extends x bs → (j : ℕ) → j < length bs → j ≡ x → sourceOf n k (block bs j) r .cycles ≡ k - 1
+  extended : {x : ℕ} {bs : List Block} → Extends x bs → (j : ℕ) → j < length bs → j ≡ x → cyclesOf k (block bs j) ≡ k - 1
   extended past j h e = absurd (omega arith)
   extended (here p) zero h e = refl
   extended (here p) (suc j) h e = absurd (omega arith)
   extended (later p) zero h e = absurd (omega arith)
   extended (later p) (suc j) h e = extended p j (omega arith) (omega arith)
 
-  inserted : {x : ℕ} {bs : List Block} → Extends x bs → (j : ℕ) → j < length bs → (j ≡ x → ⊥) → sourceOf n k (block bs j) r .cycles ≡ k
+  inserted : {x : ℕ} {bs : List Block} → Extends x bs → (j : ℕ) → j < length bs → (j ≡ x → ⊥) → cyclesOf k (block bs j) ≡ k
   inserted past j h o = absurd (omega arith)
   inserted (here p) zero h o = absurd (o refl)
   inserted (here p) (suc j) h o = inserting p j (omega arith)
@@ -121,8 +122,29 @@ by-letter n k x i (is-e e m h) =
     (skip x (omega arith)
     (falling-skip (x - 1) _ (n - 1) (suc (n - 1) - (k + 1)) (omega arith) (stop _ (omega arith) (falling-inserts _ k (suc k - 2)))))
 
--- the blocks of S(n,k)
-pub extends-at : (n k x : ℕ) → IndexOf n k x → ExtendsAt n k x
+-- the blocks of S(n,k), as written
+pub extends-at : (n k x : ℕ) → IndexOf n k x → ExtendsAt n k false x
 extends-at n k x i =
     let p = by-letter n k x i (which n k) in
-    record { extends = λ j r. extended n k r p j; inserts = λ j r. inserted n k r p j }
+    record { extends = extended k p; inserts = inserted k p }
+
+-- read backward, the index is counted from the other end; past the last block it stays past it
+pub extends-read : (n k x : ℕ) → ExtendsAt n k false x → x < length (blocks n k) → ExtendsAt n k true (numberRead n k true x)
+extends-read n k x w h =
+    record {
+      extends = λ j l e.
+          ap (cyclesOf k) (block-read n k true j l)
+          ∙ w .extends (numberRead n k true j) (number-inside n k true j l) (ap (numberRead n k true) e ∙ number-back n k true x h);
+      inserts = λ j l o.
+          ap (cyclesOf k) (block-read n k true j l)
+          ∙ w .inserts (numberRead n k true j) (number-inside n k true j l) (λ e. o (sym (number-back n k true j l) ∙ ap (numberRead n k true) e));
+    }
+
+pub extends-none : (n k x : ℕ) → ExtendsAt n k false x → length (blocks n k) ≤ x → ExtendsAt n k true x
+extends-none n k x w h =
+    record {
+      extends = λ j l e. absurd (omega arith);
+      inserts = λ j l o.
+          ap (cyclesOf k) (block-read n k true j l)
+          ∙ w .inserts (numberRead n k true j) (number-inside n k true j l) (λ e. omega (arith, number-inside n k true j l));
+    }

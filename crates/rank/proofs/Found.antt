@@ -1,82 +1,54 @@
 -- The block of S(n,k) that a permutation stands in: the one that puts n where the permutation has it, made from rows with the shorter permutation's cycles. Assumes
 -- nothing.
 use mathlib.Core.Path.{_≡_, sym, ap, _∙_}
-use Prim.Native.Nat.{ℕ, zero, suc, _-_, _<_}
+use Prim.Native.Nat.{ℕ, zero, suc, _+_, _-_, _<_}
 use native.Mathlib.Omega.{arith}
+use mathlib.Core.Bool.{Bool, false}
 use mathlib.Core.List.{List, [], _∷_}
-use lib.Dec.{eqb, ltb}
+use lib.Dec.{eqb}
 use borrow.Table.Steps.{cases}
-use borrow.Author.Tests.{eqb-true, eq-eqb, ltb-true, ltb-false}
+use borrow.Author.Tests.{eqb-true, eq-eqb}
 use lib.ListN.{length}
-use Rattle.stirling.specs.Count.{c}
 use Rattle.perm.specs.Array.{position}
 use Rattle.gray.specs.declared.Block.{Block}
-use Rattle.gray.specs.Order.{Row, S, rows, joined}
-use Rattle.gray.specs.Blocks.{blocks}
+use Rattle.gray.specs.Order.{Row, S}
+use Rattle.gray.specs.Blocks.{blocks, positionOf, numberIn, numberOf}
 use Rattle.gray.specs.Listing.{rowAt, HasCycles}
 use Rattle.gray.proofs.Indexed.{block}
 use Rattle.gray.proofs.InPlace.{in-place}
-use Rattle.gray.proofs.Once.{complete}
-use Rattle.rank.specs.Search.{positionOf, cyclesOf, backwardOf, numberIn, numberOf}
-use Rattle.rank.specs.Ranking.{cyclesLeft}
+use Rattle.gray.proofs.Once.{length-S, complete}
+use Rattle.rank.specs.Search.{grown, cyclesOf, backwardOf, turned, sizeOf, before, numberRead}
+use Rattle.rank.specs.Ranking.{cyclesLeft, PlaceIn}
 use Rattle.rank.specs.Descent.{blockWith, shorter}
 use Rattle.rank.proofs.Reversed.{row-cycles}
-use Rattle.rank.proofs.Search.{Holds, first-part, second-part, blockRows, length-block, block-row, ahead, ahead-all, in-range}
+use Rattle.rank.proofs.Starts.{blockRows, block-row, in-range, before-suc, some-block}
 use Rattle.rank.proofs.Without.{made, one-position}
-use Rattle.rank.proofs.Around.{left-of}
-
--- a row stands in one of some blocks
-record Within (n : ℕ) (L M : List Row) (bs : List Block) (row : Row) : Type 0 where
-  number : ℕ
-  inside : number < length bs
-  place : ℕ
-  below : place < length (rows n L M (block bs number))
-  is : rowAt (rows n L M (block bs number)) place ≡ row
-
--- so does a row of the blocks, joined
-within : (n : ℕ) (L M : List Row) (bs : List Block) {row : Row} {r : ℕ} → Holds (joined n L M bs) row r → Within n L M bs row
-unfolding joined
-within n L M [] w = absurd (omega (arith, w .below))
-within n L M (b ∷ bs) {r = r} w =
-    let first = rows n L M b in
-    let rest = joined n L M bs in
-    cases (ltb r (length first))
-    (λ t. let l = ltb-true r (length first) t in record {
-      number = 0;
-      inside = omega arith;
-      place = r;
-      below = l;
-      is = sym (first-part first rest w l);
-    })
-    (λ t.
-    let v = within n L M bs (second-part first rest w (ltb-false r (length first) t)) in
-    record {
-      number = suc (v .number);
-      inside = omega (arith, v .inside);
-      place = v .place;
-      below = v .below;
-      is = v .is;
-    })
+use Rattle.rank.proofs.Around.{left-of, from-block, placed-in}
 
 -- where some block puts n at position i, the first that does so is found by `numberIn`
-numbered : (n i : ℕ) (bs : List Block) (j : ℕ) → j < length bs → positionOf n (block bs j) ≡ i
-    → (numberIn n i bs < length bs) × (positionOf n (block bs (numberIn n i bs)) ≡ i)
+numbered : (n i : ℕ) (bs : List Block) (j : ℕ) → j < length bs → positionOf n (block bs j) ≡ i → numberIn n i bs < length bs
 unfolding numberIn
 numbered n i [] j h e = absurd (omega arith)
-numbered n i (b ∷ bs) zero h e = rw (eq-eqb (positionOf n b) i e) (omega arith, e)
+numbered n i (b ∷ bs) zero h e = rw (eq-eqb (positionOf n b) i e) (omega arith)
 numbered n i (b ∷ bs) (suc j) h e =
+    cases (eqb (positionOf n b) i) (λ t. rw t (omega arith)) (λ t. let l = numbered n i bs j (omega arith) e in rw t (omega arith))
+
+-- and puts n there
+pub puts-there : (n i : ℕ) (bs : List Block) → numberIn n i bs < length bs → positionOf n (block bs (numberIn n i bs)) ≡ i
+unfolding numberIn
+puts-there n i [] h = absurd (omega arith)
+puts-there n i (b ∷ bs) h =
     cases (eqb (positionOf n b) i)
-    (λ t. rw t (omega arith, eqb-true (positionOf n b) i t))
-    (λ t. let (l, p) = numbered n i bs j (omega arith) e in rw t (omega arith, p))
+    (λ t. rw t (eqb-true (positionOf n b) i t))
+    (λ t. rw t (puts-there n i bs (omega (arith, rw t at h))))
 
 -- a block that holds a permutation puts n where the permutation has it
-puts : {m k : ℕ} {s : Row} → HasCycles (suc m) k s → (j r : ℕ) → r < length (blockRows (suc m) k (block (blocks (suc m) k) j))
+puts : {m k : ℕ} {s : Row} → HasCycles (suc m) k s → (j r : ℕ) → r < sizeOf (suc m) k (block (blocks (suc m) k) j)
     → rowAt (blockRows (suc m) k (block (blocks (suc m) k) j)) r ≡ s
     → positionOf (suc m) (block (blocks (suc m) k) j) ≡ position (suc m) s
-puts {m} {k} w j r h e =
+puts {m} {k} w j r l e =
     let n = suc m in
     let b = block (blocks n k) j in
-    let l : r < c (n - 1) (cyclesOf k b) = rw (← length-block n k b r) h in
     let y : n - 1 ≡ m = omega arith in
     let shape = made (w .permutation) in
     one-position n (positionOf n b) _ (in-range n b (omega arith) (in-place n k j)) (shape .here)
@@ -91,9 +63,14 @@ pub found : {m k : ℕ} {s : Row} → HasCycles (suc m) k s
 found {m} {k} {s} w =
     let n = suc m in
     let (r, h, e) = complete n k .place s w in
-    let all : Holds (ahead n k 0) s r = rw (← ahead-all n k (omega arith)) (record { below = h; here = sym e }) in
-    let held = within n (S (n - 1) k) (S (n - 1) (k - 1)) (blocks n k) all in
-    numbered n (position n s) (blocks n k) (held .number) (held .inside) (puts w (held .number) (held .place) (held .below) (held .is))
+    let (j, l, u, v) = some-block n k false r (omega arith) (rw (← length-S n k) h) in
+    let b = block (blocks n k) j in
+    let size : r - before n k false j < sizeOf n k b = omega (arith, u, v, before-suc n k false j l) in
+    let there : before n k false j + (r - before n k false j) ≡ r = omega (arith, u) in
+    let inside : numberOf n k (position n s) < length (blocks n k) =
+    numbered n (position n s) (blocks n k) j l
+    (puts w j (r - before n k false j) size (sym (from-block n k j (omega arith) l false _ size) ∙ ap (rowAt (S n k)) there ∙ e)) in
+    (inside, puts-there n (position n s) (blocks n k) inside)
 
 -- and it is made from rows with the cycles that the shorter permutation has
 pub left : {m k : ℕ} {s : Row} → HasCycles (suc m) k s → HasCycles m (cyclesOf k (blockWith (suc m) k (position (suc m) s))) (shorter m s)
@@ -107,3 +84,20 @@ left {m} {k} {s} w =
           ∙ ap (λ (j : ℕ). cyclesLeft (suc m) j i) (w .count)
           ∙ sym (left-of (suc m) k i (blockWith (suc m) k i) (in-place (suc m) k (numberOf (suc m) k i)) (found w .1));
     }
+
+-- so where the shorter permutation stands, as the block reads its list, tells where the permutation stands: the rows before the block come first
+pub more-placed : (backward : Bool) {m k : ℕ} {s : Row} → HasCycles (suc m) k s → (r : ℕ)
+    → PlaceIn
+    (turned backward (backwardOf (blockWith (suc m) k (position (suc m) s))))
+    m
+    (cyclesOf k (blockWith (suc m) k (position (suc m) s)))
+    (shorter m s)
+    r
+    → PlaceIn backward (suc m) k s (before (suc m) k backward (numberRead (suc m) k backward (numberOf (suc m) k (position (suc m) s))) + r)
+more-placed backward {m} {k} {s} w r inner =
+    let n = suc m in
+    let y : n - 1 ≡ m = omega arith in
+    let (inside, here) = found w in
+    placed-in backward n k (numberOf n k (position n s)) r (omega arith) inside
+    (made (w .permutation) .grows ∙ ap (λ (i : ℕ). grown n i (shorter m s)) (sym here))
+    (rw y inner)

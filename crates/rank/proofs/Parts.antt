@@ -1,87 +1,109 @@
--- Searching the part of S(n,k) that has value n at a position, one block after the other, while the rows of the blocks passed are counted. Assumes nothing.
-use mathlib.Core.Path.{_≡_, refl, sym, ap, subst, _∙_}
-use Prim.Native.Nat.{ℕ, _+_, _-_, _≤_, _<_}
-use native.Mathlib.Numerals.{add-one}
-use native.Mathlib.Omega.{arith}
-use mathlib.Core.Bool.{false}
-use mathlib.Core.List.{List}
-use borrow.Author.Tests.{eq-eqb, ne-eqb}
-use lib.ListN.{length, take, drop}
-use lib.Seq.{drop-cons}
-use Rattle.stirling.specs.Count.{c}
-use Rattle.gray.specs.declared.Block.the-variants.{Extend as E}
-use Rattle.gray.specs.Order.{Row, S, joined}
-use Rattle.gray.specs.Blocks.{blocks}
-use Rattle.gray.specs.Listing.{rowAt}
-use Rattle.gray.proofs.Once.{length-S}
-use Rattle.rank.specs.Search.{numberIn, numberOf, before, ComesFrom}
-use Rattle.rank.specs.Ranking.{Occurs, IsPart}
-use Rattle.rank.proofs.Reversed.{row-cycles}
-use Rattle.rank.proofs.Search.{Holds, second-part, ahead, source, block-left, comes-from}
-use Rattle.rank.proofs.Without.{one-position}
-use Rattle.rank.proofs.Around.{held, cut-at, before-suc}
+-- The part of the block at which a search stops. Assumes nothing.
+use mathlib.Core.Path.{_≡_, refl, sym, ap, _∙_}
+use Prim.Native.Nat.{ℕ, suc, _≤_, _<_}
+use mathlib.Core.Bool.{Bool, true, false, not, Bool·beq}
+use Rattle.gray.specs.declared.Block.{Block}
+use Rattle.gray.specs.Blocks.{blocks, positionOf, numberOf}
+use Rattle.gray.proofs.Indexed.{block}
+use Rattle.gray.proofs.InPlace.{in-place}
+use Rattle.rank.specs.declared.Stop.{Stop}
+use Rattle.rank.specs.declared.Part.{Part}
+use Rattle.rank.specs.Search.{cyclesOf, backwardOf, turned, before, numberRead, IsStop, partOf, HoldsPlace}
+use Rattle.rank.specs.Ranking.{cyclesLeft, Occurs}
+use Rattle.rank.proofs.Starts.{number-inside, number-back}
+use Rattle.rank.proofs.Around.{left-of, start-next}
+use Rattle.rank.proofs.Found.{puts-there}
 
--- a row sought does not come from a block that puts n elsewhere
-elsewhere : {n k i : ℕ} (j r : ℕ) → (source n k j 0 .position ≡ i → ⊥) → (o : Occurs n k i) → ComesFrom n k (o .place) (source n k j r) → ⊥
-elsewhere {n} {k} {i} j r other o w =
-    let s = source n k j r in
-    let shorter = row-cycles (n - 1) (s .cycles) (s .place) (s .backward) (w .below) in
-    other (one-position n (s .position) i (w .position) (o .position) (shorter .permutation) (o .permutation) (sym (w .row) ∙ o .row))
+-- a reading is turned where the two differ
+differs : (backward odd : Bool) → not (Bool·beq backward odd) ≡ turned backward odd
+differs true true = refl
+differs true false = refl
+differs false true = refl
+differs false false = refl
 
--- blocks 0 to j−1 are passed, with `start` rows, and none of them puts n at position i: no row passed has n there
-pub record Passed (n k i start j : ℕ) : Type 0 where
-  pub number : numberOf n k i ≡ j + numberIn n i (drop j (blocks n k))
-  pub first : start ≡ before n k false j
-  pub behind : (o : Occurs n k i) → start ≤ o .place
-
--- the search begins with no block passed
-pub none-passed : (n k i : ℕ) → Passed n k i 0 0
-unfolding before joined
-none-passed n k i = record { number = omega arith; first = refl; behind = λ o. omega arith }
-
-module _ {n k i start j : ℕ} (p : Passed n k i start j) where
-  -- a row sought is ahead
-  sought : (o : Occurs n k i) → Holds (ahead n k j) (rowAt (S n k) (o .place)) (o .place - start)
-  unfolding before
-  sought o =
-      let passed = held n k (take j (blocks n k)) in
-      let all : Holds (S n k) (rowAt (S n k) (o .place)) (o .place) = record { below = rw (length-S n k) (o .below); here = refl } in
-      let h : length passed ≤ o .place = rw (← p .first) (p .behind o) in
-      let joined-all = subst (λ (rs : List Row). Holds rs (rowAt (S n k) (o .place)) (o .place)) (cut-at n k j (omega (arith, o .position))) all in
-      rw (p .first) (second-part passed (ahead n k j) joined-all h)
-
-  -- so there is a block j
-  pub block-ahead : Occurs n k i → j < length (blocks n k)
-  block-ahead o = block-left n k (o .place) j _ (omega (arith, o .position)) (sought o)
-
-  module _ (h : 1 ≤ n) (l : j < length (blocks n k)) where
-    -- block j puts n elsewhere: a row sought is behind it
-    still-behind : (source n k j 0 .position ≡ i → ⊥) → (o : Occurs n k i) → start + c (n - 1) (source n k j 0 .cycles) ≤ o .place
-    still-behind other o =
-        let r = o .place - start in
-        let not-here : ¬ (r < c (n - 1) (source n k j 0 .cycles)) = λ u. elsewhere j r other o (comes-from n k (o .place) j r h (sought o) u) in
-        omega (arith, p .behind o)
-
-    -- the block sought is block j, or one of those after it
-    number-here : source n k j 0 .position ≡ i → numberOf n k i ≡ j
-    unfolding numberIn
-    number-here here = p .number ∙ rw (drop-cons (blocks n k) j (E 0) l, eq-eqb _ _ here) (omega arith)
-
-    number-past : (source n k j 0 .position ≡ i → ⊥) → numberOf n k i ≡ (j + 1) + numberIn n i (drop (j + 1) (blocks n k))
-    unfolding numberIn
-    number-past other =
-        rw add-one
-        (p .number ∙ rw (drop-cons (blocks n k) j (E 0) l, ne-eqb _ _ other) (omega arith))
-
-    -- and it is passed
-    pub passes : (source n k j 0 .position ≡ i → ⊥) → Passed n k i (start + c (n - 1) (source n k j 0 .cycles)) (j + 1)
-    passes other = record {
-      number = number-past other;
-      first = rw add-one (ap (λ (x : ℕ). x + c (n - 1) (source n k j 0 .cycles)) (p .first) ∙ sym (before-suc n k j h l));
-      behind = still-behind other;
+-- the part of a block, from the block's number in the reading
+pub part-of : {n k : ℕ} {backward : Bool} {stop : Stop} → IsStop n k backward stop → {j : ℕ} {b : Block} {odd : Bool}
+    → j ≡ numberRead n k backward (stop .number)
+    → b ≡ block (blocks n k) j
+    → odd ≡ backwardOf b
+    → _≡_ {A = Part}
+    (record {
+      block = j;
+      start = stop .start;
+      additions = stop .additions;
+      position = positionOf n b;
+      cycles = cyclesOf k b;
+      backward = not (Bool·beq backward odd);
+    })
+    (partOf n k backward (numberRead n k backward (stop .number)))
+part-of {n} {k} {backward} {stop} w {j} {b} {odd} e f o =
+    let i = numberRead n k backward (stop .number) in
+    let back : stop .number ≡ numberRead n k backward i = sym (number-back n k backward (stop .number) (w .inside)) in
+    let is : b ≡ block (blocks n k) i = f ∙ ap (block (blocks n k)) e in
+    let start-is : stop .start ≡ before n k backward (numberRead n k backward i) = w .start ∙ ap (before n k backward) back in
+    let added : stop .additions ≡ numberRead n k backward i = w .additions ∙ back in
+    let reads : not (Bool·beq backward odd) ≡ turned backward (backwardOf (block (blocks n k) i)) =
+    differs backward odd ∙ ap (turned backward) (o ∙ ap backwardOf is) in
+    λ t. record {
+      block = e t;
+      start = start-is t;
+      additions = added t;
+      position = positionOf n (is t);
+      cycles = cyclesOf k (is t);
+      backward = reads t;
     }
 
-    -- block j puts n at position i: it is the part sought
-    pub is-part : source n k j 0 .position ≡ i
-        → IsPart n k i (record { block = j; start = start; cycles = source n k j 0 .cycles; backward = source n k j 0 .backward })
-    is-part here = record { number = sym (number-here here); inside = l; position = here; cycles = refl; backward = refl; first = p .first }
+-- the part of the block that holds a place
+pub holds-place : {n k : ℕ} {backward : Bool} {place : ℕ} {stop : Stop} {p : Part} → 1 ≤ n
+    → IsStop n k backward stop
+    → (before n k backward (stop .number) ≤ place) × (place < before n k backward (suc (stop .number)))
+    → p ≡ partOf n k backward (numberRead n k backward (stop .number))
+    → HoldsPlace n k backward place p
+holds-place {n} {k} {backward} {place} {stop} h w held e =
+    let j = numberRead n k backward (stop .number) in
+    let l = number-inside n k backward (stop .number) (w .inside) in
+    let back = number-back n k backward (stop .number) (w .inside) in
+    rw e
+    (record {
+      number = j;
+      inside = l;
+      part = refl;
+      from = rw back (held .0);
+      below = rw (← start-next n k j h l backward, back) (held .1);
+    })
+
+-- the part of the block that puts n at position i
+pub names-part : {n k i : ℕ} {backward : Bool} → Occurs n k i → {stop : Stop} {number cycles : ℕ} {odd : Bool}
+    → IsStop n k backward stop
+    → stop .number ≡ numberRead n k backward number
+    → number ≡ numberOf n k i
+    → cycles ≡ cyclesLeft n k i
+    → odd ≡ backwardOf (block (blocks n k) number)
+    → _≡_ {A = Part}
+    (record {
+      block = number;
+      start = stop .start;
+      additions = stop .additions;
+      position = i;
+      cycles = cycles;
+      backward = not (Bool·beq backward odd);
+    })
+    (partOf n k backward (numberOf n k i))
+names-part {n} {k} {i} {backward} o {stop} {number} {cycles} {odd} w reads e f q =
+    let j = numberOf n k i in
+    let b = block (blocks n k) j in
+    let at : stop .number ≡ numberRead n k backward j = reads ∙ ap (numberRead n k backward) e in
+    let start-is : stop .start ≡ before n k backward (numberRead n k backward j) = w .start ∙ ap (before n k backward) at in
+    let added : stop .additions ≡ numberRead n k backward j = w .additions ∙ at in
+    let put : i ≡ positionOf n b = sym (puts-there n i (blocks n k) (o .inside)) in
+    let left : cycles ≡ cyclesOf k b = f ∙ sym (left-of n k i b (in-place n k j) (sym put)) in
+    let turns : not (Bool·beq backward odd) ≡ turned backward (backwardOf b) =
+    differs backward odd ∙ ap (turned backward) (q ∙ ap (λ (x : ℕ). backwardOf (block (blocks n k) x)) e) in
+    λ t. record {
+      block = e t;
+      start = start-is t;
+      additions = added t;
+      position = put t;
+      cycles = left t;
+      backward = turns t;
+    }

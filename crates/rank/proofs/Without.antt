@@ -53,13 +53,13 @@ made-split {m} (inserted i γ h k g) =
 pub made : {m : ℕ} {s : Row} → IsPermutation (suc m) s → Made m s
 made p = made-split (split p)
 
--- what is grown has its greatest value where it was put
-position-grown : {m : ℕ} {γ : Row} (i : ℕ) → (1 ≤ i) × (i ≤ suc m) → IsPermutation m γ → position (suc m) (grown (suc m) i γ) ≡ i
-position-grown {m} {γ} i h g =
+-- what is grown has its greatest value where it was put, and without it is what it grew from
+pub without-grown : {m : ℕ} {γ : Row} (i : ℕ) → (1 ≤ i) × (i ≤ suc m) → IsPermutation m γ → Without m (grown (suc m) i γ) i γ
+without-grown {m} {γ} i h g =
     let y : length γ ≡ suc m - 1 = omega (arith, g .size) in
     ⊎-elim
-    (λ e. rw (e, ← grown-extend (suc m) γ y (omega arith)) (without-extend g .here))
-    (λ l. rw (← grown-insert (suc m) γ y (omega arith) i (h .0) l) (without-insert i (h .0) (omega arith) g .here))
+    (λ e. rw (e, ← grown-extend (suc m) γ y (omega arith)) (without-extend g))
+    (λ l. rw (← grown-insert (suc m) γ y (omega arith) i (h .0) l) (without-insert i (h .0) (omega arith) g))
     (eq-or-lt-of-le (h .1))
 
 -- so it is put at one position only
@@ -73,7 +73,7 @@ pub one-position : (n i j : ℕ) {γ δ : Row}
 one-position zero i j hi hj γ δ e = absurd (omega arith)
 one-position (suc m) i j hi hj γ δ e =
     let y : suc m - 1 ≡ m = omega arith in
-    sym (position-grown i hi (rw y at γ)) ∙ ap (position (suc m)) e ∙ position-grown j hj (rw y at δ)
+    sym (without-grown i hi (rw y at γ) .here) ∙ ap (position (suc m)) e ∙ without-grown j hj (rw y at δ) .here
 
 -- an array p of m + 1 entries is q and then i: without m + 1 its permutation is that of q
 pub record Cut (m i : ℕ) (q p : List ℕ) : Type 0 where

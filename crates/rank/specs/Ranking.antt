@@ -1,51 +1,29 @@
 -- How a permutation's place is found from its transposition array: its last entry names a block of S(n,k), and the entries before it a row of the
 -- shorter list that the block is made from. Only private contracts cite them. These are definitions; nothing is assumed.
 use mathlib.Core.Path.{_≡_}
-use Prim.Native.Nat.{ℕ, _+_, _-_, _≤_, _<_}
-use mathlib.Core.Bool.{Bool, false, cond}
-use mathlib.Core.List.{List, _++_, reverse}
+use Prim.Native.Nat.{ℕ, _-_, _≤_, _<_}
+use mathlib.Core.Bool.{Bool, cond}
+use mathlib.Core.List.{List, _++_}
 use lib.Dec.{eqb}
-use lib.ListN.{length, getD, replicate}
+use lib.ListN.{length, replicate}
 use Rattle.stirling.specs.Count.{c}
-use Rattle.perm.specs.Permutation.{IsPermutation}
 use Rattle.perm.specs.Cycle.{cycles}
 use Rattle.perm.specs.Array.{IsArray, product, arrayOf}
 use Rattle.perm.specs.Checks.{checkPermutation}
-use Rattle.gray.specs.declared.Block.the-variants.{Extend as E}
-use Rattle.gray.specs.Order.{Row, S}
-use Rattle.gray.specs.Blocks.{blocks}
+use Rattle.gray.specs.Order.{Row}
+use Rattle.gray.specs.Blocks.{blocks, numberOf}
 use Rattle.gray.specs.Listing.{rowAt}
-use Rattle.rank.specs.Search.{grown, positionOf, cyclesOf, backwardOf, numberOf, before}
-use Rattle.rank.specs.declared.Part.{Part}
+use Rattle.rank.specs.Search.{readingOf, Listed}
 use Rattle.rank.specs.declared.Entries.{Entries}
 
 -- the cycles without value n, where n stands at position i of a permutation with k: at position n it is a cycle of its own
 abbrev pub cyclesLeft : ℕ → ℕ → ℕ → ℕ
 cyclesLeft n k i = cond (eqb i n) (k - 1) k
 
--- some row of S(n,k) has value n at position i
+-- some block of S(n,k) puts value n at position i
 pub record Occurs (n k i : ℕ) : Type 0 where
-  pub small : n ≤ 20
-  pub position : (1 ≤ i) × (i ≤ n)
-  pub place : ℕ
-  pub below : place < c n k
-  pub shorter : Row
-  pub permutation : IsPermutation (n - 1) shorter
-  pub row : rowAt (S n k) place ≡ grown n i shorter
-
--- S(n,k) read forward or backward
-abbrev pub readingOf : Bool → ℕ → ℕ → List Row
-readingOf backward n k = cond backward (reverse (S n k)) (S n k)
-
--- the part of S(n,k) that has value n at position i: the block that puts n there, by its number, with the cycles and the reading of the list for n−1 that it is made
--- from; `start` rows stand before it
-pub record IsPart (n k i : ℕ) (p : Part) : Type 0 where
-  pub number : p .block ≡ numberOf n k i
-  pub inside : p .block < length (blocks n k)
-  pub position : positionOf n (getD (blocks n k) (p .block) (E 0)) ≡ i
-  pub cycles : p .cycles ≡ cyclesOf k (getD (blocks n k) (p .block) (E 0))
-  pub backward : p .backward ≡ backwardOf (getD (blocks n k) (p .block) (E 0))
-  pub first : p .start ≡ before n k false (p .block)
+  pub listed : Listed n k
+  pub inside : numberOf n k i < length (blocks n k)
 
 -- the array of a permutation that is read, followed by zeros to 20 bytes, and its number of cycles: checks 1, 6, 7; or zeros
 pub record HasEntries (s : List ℕ) (r : Entries) : Type 0 where

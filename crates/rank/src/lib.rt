@@ -2,21 +2,22 @@
 use gray::Block;
 use perm::REFUSED_LENT;
 ghost use mathlib.Core.Path.{_≡_};
-ghost use Prim.Native.Nat.{_+_, _-_, _*_, _≤_, _<_};
-ghost use mathlib.Core.Bool.{true, false};
+ghost use Prim.Native.Nat.{suc, _+_, _-_, _*_, _^_, _≤_, _<_};
+ghost use mathlib.Core.Bool.{true, false, cond};
 ghost use mathlib.Core.List.{_++_, reverse};
 ghost use lib.Dec.{eqb};
 ghost use lib.ListN.{length, replicate, take, drop};
-ghost use Rattle.stirling.specs.Count.{c, IsTable, checkCycles};
+ghost use Rattle.stirling.specs.Count.{c, IsTable};
 ghost use Rattle.perm.specs.Lists.{tally, positions};
 ghost use Rattle.perm.specs.Permutation.{at};
 ghost use Rattle.perm.specs.Array.{product};
 ghost use Rattle.gray.specs.Order.{S};
+ghost use Rattle.gray.specs.Blocks.{blocks, numberOf};
 ghost use Rattle.gray.specs.Listing.{rowAt};
 ghost use Rattle.rank.specs.Place.{Unranked, Ranked, checkRowCount, rowsFrom, RowsWritten};
-ghost use Rattle.rank.specs.Search.{grown, cyclesOf, backwardOf, sourceOf, ExtendsAt, sourceRow, ComesFrom, Readable};
-ghost use Rattle.rank.specs.Ranking.{Occurs, IsPart, HasEntries, Rankable, PlaceIn};
-ghost use Rattle.rank.specs.Descent.{step, blockWith, turned, steps, still, Descends};
+ghost use Rattle.rank.specs.Search.{readingOf, backwardOf, before, numberRead, ExtendsAt, Listed, AreSizes, IsStop, partOf, HoldsPlace, Readable, InFront};
+ghost use Rattle.rank.specs.Ranking.{Occurs, HasEntries, Rankable, PlaceIn};
+ghost use Rattle.rank.specs.Descent.{steps, still, Additions, Descends};
 
 // The refusal of check 4.
 pub const REFUSED_ROWS: u8 = 4;
@@ -32,22 +33,43 @@ pub struct Standing {
     pub place: u64,
 }
 
-// Where a row of S(n,k) comes from: the row at a place of S(n-1,cycles), read forward or backward. With n added at its end and exchanged with
-// the value at `position` it is the row of S(n,k).
-struct Source {
-    position: u64,
-    cycles: u64,
-    backward: bool,
-    place: u64,
+// The block of S(n,k) at which a search through a reading of the list stops: its number from 0 in that reading, and how many rows of the reading stand before it. The
+// start is a running sum: going on to the next block adds one count to it, and `additions` says how often that was done.
+struct Stop {
+    number: u64,
+    start: u64,
+    additions: u64,
 }
 
-// The part of S(n,k) that one block makes: the block's number from 0 in written order, how many rows stand before it, and the list S(n-1,cycles) that it
-// is made from, read forward or backward.
+// Where every search begins: at the first block, with nothing before it and nothing added.
+const FIRST: Stop = Stop {
+    number: 0,
+    start: 0,
+    additions: 0,
+};
+
+// The sizes of the blocks of S(n,k), counted as a reading meets them: the block at index `extension` has `extended` rows, and each other `inserted`.
+struct Sizes {
+    inserted: u64,
+    extended: u64,
+    extension: u64,
+}
+
+// The part of a reading of S(n,k) that a block makes: the block's number from 0 in written order, its start as above, the position at which its rows have value n, and
+// the list S(n-1,cycles) that it is made from, with the reading of that list.
 struct Part {
     block: u64,
     start: u64,
+    additions: u64,
+    position: u64,
     cycles: u64,
     backward: bool,
+}
+
+// The starts of the parts in which a permutation stands, from S(n,k) down, added up, which is its place; and how many additions found them.
+struct Sum {
+    starts: u64,
+    additions: u64,
 }
 
 // The transposition array of a permutation, followed by zeros, and its number of cycles. Zeros on a refusal.
@@ -74,11 +96,10 @@ const STILL: Step = Step {
     before: 0,
 };
 
-// A step, and what it hands down: the cycles and the reading of the list one size below.
-struct Rung {
-    step: Step,
-    cycles: u64,
-    backward: bool,
+// The steps of a permutation from n down to 1, in front of steps of zeros, and how many additions found them.
+struct Path {
+    steps: [Step; 20],
+    additions: u64,
 }
 
 // The steps of a permutation from n down to 1, in front of steps of zeros, and its number of cycles. Zeros on a refusal.
@@ -88,31 +109,21 @@ pub struct Descent {
     pub steps: [Step; 20],
 }
 
-// What a block of S(n,k) makes its row at a place from.
-fn source_of(n: u64, k: u64, block: Block, place: u64) -> Source
-    requires { ⌜ 1 ≤ k ⌝ }
-    ensures { λ r. ⌜ r ≡ sourceOf n k block place ⌝ }
+// The number of block j of S(n,k) where the blocks are counted as a reading meets them; and from there back to j.
+fn number_read(n: u64, k: u64, backward: bool, j: u64) -> u64
+    requires { ⌜ j < length (blocks n k) ⌝ }
+    ensures { λ r. ⌜ r ≡ numberRead n k backward j ⌝ }
 {
-    match block {
-        Block::Insert { position, reading } => Source {
-            position,
-            cycles: k,
-            backward: reading % 2 == 1,
-            place,
-        },
-        Block::Extend { reading } => Source {
-            position: n,
-            cycles: k - 1,
-            backward: reading % 2 == 1,
-            place,
-        },
+    if backward {
+        return gray::block_count(n, k) - 1 - j;
     }
+    j
 }
 
 // The index of the block of S(n,k) that extends; where none does, as in (a) from n = 2 on, the number of blocks.
 fn extension_index(n: u64, k: u64) -> u64
-    requires { ⌜ checkCycles n k ≡ 0 ⌝ }
-    ensures { λ r. ⌜ ExtendsAt n k r ⌝ }
+    requires { ⌜ Listed n k ⌝ }
+    ensures { λ r. ⌜ ExtendsAt n k false r ⌝ }
 {
     if k == 1 {
         return n - 1;
@@ -126,79 +137,213 @@ fn extension_index(n: u64, k: u64) -> u64
     n - k
 }
 
-// What the row of S(n,k) at a place comes from: the blocks are passed, one after the other, up to the one that holds the place. A block that
-// inserts has as many rows as S(n-1,k), and the one that extends as many as S(n-1,k-1).
-fn source_at(counts: &[u64], n: u64, k: u64, place: u64) -> Source
-    requires { ⌜ IsTable (now counts) ⌝ }
-    requires { ⌜ (1 ≤ n) × (n ≤ 20) × (place < c n k) ⌝ }
-    ensures { λ r. ⌜ ComesFrom n k place r ⌝ }
+// The same index where the blocks are counted as a reading meets them.
+fn extension_read(n: u64, k: u64, backward: bool) -> u64
+    requires { ⌜ Listed n k ⌝ }
+    ensures { λ r. ⌜ ExtendsAt n k backward r ⌝ }
 {
-    let inserted = stirling::entry(counts, n - 1, k);
-    let extended = stirling::entry(counts, n - 1, k - 1);
-    let extension = extension_index(n, k);
-    let mut rest = place;
-    let mut j = 0;
+    let index = extension_index(n, k);
+    let count = gray::block_count(n, k);
+    if !backward {
+        return index;
+    }
+    if index < count {
+        return count - 1 - index;
+    }
+    index
+}
+
+// The sizes of the blocks of S(n,k): one that inserts has as many rows as S(n-1,k), and the one that extends as many as S(n-1,k-1).
+fn sizes_of(counts: &[u64], n: u64, k: u64, backward: bool) -> Sizes
+    requires { ⌜ IsTable (now counts) ⌝ }
+    requires { ⌜ Listed n k ⌝ }
+    ensures { λ r. ⌜ AreSizes n k backward r ⌝ }
+{
+    Sizes {
+        inserted: stirling::entry(counts, n - 1, k),
+        extended: stirling::entry(counts, n - 1, k - 1),
+        extension: extension_read(n, k, backward),
+    }
+}
+
+// The size of a block, by its number.
+fn size_at(sizes: Sizes, j: u64) -> u64
+    ensures { λ r. ⌜ r ≡ cond (eqb j (sizes .extension)) (sizes .extended) (sizes .inserted) ⌝ }
+{
+    if j == sizes.extension {
+        return sizes.extended;
+    }
+    sizes.inserted
+}
+
+// Every search goes on to the next block by this one addition: the size of the block that is passed is added to the running start.
+fn pass(stop: Stop, size: u64) -> Stop
+    requires { ⌜ (stop .number < 20) × (stop .additions < 20) × (stop .start + size < 2 ^ 64) ⌝ }
+    ensures { λ r. ⌜ r ≡ record { number = stop .number + 1; start = stop .start + size; additions = stop .additions + 1 } ⌝ }
+{
+    Stop {
+        number: stop.number + 1,
+        start: stop.start + size,
+        additions: stop.additions + 1,
+    }
+}
+
+// The block of S(n,k) that holds the row at a place of a reading.
+fn search_place(counts: &[u64], n: u64, k: u64, backward: bool, place: u64) -> Stop
+    requires { ⌜ IsTable (now counts) ⌝ }
+    requires { ⌜ Listed n k × (place < c n k) ⌝ }
+    ensures stop { λ r. ⌜ IsStop n k backward r ⌝ }
+    ensures place { λ r. ⌜ (before n k backward (r .number) ≤ place) × (place < before n k backward (suc (r .number))) ⌝ }
+{
+    let sizes = sizes_of(counts, n, k, backward);
+    let mut stop = FIRST;
     loop {
-        let size = if j == extension { extended } else { inserted };
-        if rest < size {
-            return source_of(n, k, gray::block_at(n, k, j), rest);
+        let size = size_at(sizes, stop.number);
+        if place - stop.start < size {
+            return stop;
         }
-        rest -= size;
-        j += 1;
+        stop = pass(stop, size);
     }
 }
 
-// The permutation in all but the last byte of `out` becomes one of n: n is added at its end, and exchanged with the value at position i.
-fn grow(n: u64, i: u64, out: &mut [u8])
-    requires { ⌜ (n ≤ 20) × (1 ≤ i) × (i ≤ n) × (length (now out) ≡ n) ⌝ }
-    ensures { λ _. ⌜ now (out .exit) ≡ grown n i (take (n - 1) (now (out .entry))) ⌝ }
+// The block of S(n,k) with a number, counted as a reading meets the blocks.
+fn search_number(counts: &[u64], n: u64, k: u64, backward: bool, number: u64) -> Stop
+    requires { ⌜ IsTable (now counts) ⌝ }
+    requires { ⌜ Listed n k × (number < length (blocks n k)) ⌝ }
+    ensures stop { λ r. ⌜ IsStop n k backward r ⌝ }
+    ensures number { λ r. ⌜ r .number ≡ number ⌝ }
 {
-    let last = (n - 1) as usize;
-    let at = (i - 1) as usize;
-    out[last] = out[at];
-    out[at] = n as u8;
+    let sizes = sizes_of(counts, n, k, backward);
+    let mut stop = FIRST;
+    while stop.number != number {
+        stop = pass(stop, size_at(sizes, stop.number));
+    }
+    stop
 }
 
-// The row of n values that a source leads to: the row that it comes from, read as the source says, with n put in.
-fn unrank_from(counts: &[u64], n: u64, source: Source, out: &mut [u8])
-    requires { ⌜ IsTable (now counts) ⌝ }
-    requires { ⌜ (1 ≤ n) × (n ≤ 20) × (length (now out) ≡ n) ⌝ }
-    requires { ⌜ (1 ≤ source .position) × (source .position ≤ n) × (source .place < c (n - 1) (source .cycles)) ⌝ }
-    ensures { λ _. ⌜ now (out .exit) ≡ grown n (source .position) (sourceRow n source) ⌝ }
+// The part of the block at which a search stopped. Where a list is read backward, each of its blocks is turned.
+fn part_of(n: u64, k: u64, backward: bool, stop: Stop) -> Part
+    requires { ⌜ Listed n k × IsStop n k backward stop ⌝ }
+    ensures { λ r. ⌜ r ≡ partOf n k backward (numberRead n k backward (stop .number)) ⌝ }
 {
-    let m = n - 1;
-    let last = m as usize;
-    if source.backward {
-        unrank_backward(counts, m, source.cycles, source.place, &mut out[..last]);
+    let block = number_read(n, k, backward, stop.number);
+    match gray::block_at(n, k, block) {
+        Block::Insert { position, reading } => Part {
+            block,
+            start: stop.start,
+            additions: stop.additions,
+            position,
+            cycles: k,
+            backward: backward != (reading % 2 == 1),
+        },
+        Block::Extend { reading } => Part {
+            block,
+            start: stop.start,
+            additions: stop.additions,
+            position: n,
+            cycles: k - 1,
+            backward: backward != (reading % 2 == 1),
+        },
+    }
+}
+
+// The part of a reading of S(n,k) that holds the row at a place.
+fn part_at(counts: &[u64], n: u64, k: u64, backward: bool, place: u64) -> Part
+    requires { ⌜ IsTable (now counts) ⌝ }
+    requires { ⌜ Listed n k × (place < c n k) ⌝ }
+    ensures { λ r. ⌜ HoldsPlace n k backward place r ⌝ }
+{
+    part_of(n, k, backward, search_place(counts, n, k, backward, place))
+}
+
+// Whether a block reads the list that it is made from backward.
+fn reads_backward(block: Block) -> bool
+    ensures { λ r. ⌜ r ≡ backwardOf block ⌝ }
+{
+    match block {
+        Block::Insert {
+            position: _,
+            reading,
+        } => reading % 2 == 1,
+        Block::Extend { reading } => reading % 2 == 1,
+    }
+}
+
+// The part of a reading of S(n,k) whose rows have value n at position i: the block's number is had by a formula, and then its start by the additions.
+fn part_with(counts: &[u64], n: u64, k: u64, backward: bool, i: u64) -> Part
+    requires { ⌜ IsTable (now counts) ⌝ }
+    requires { ⌜ Occurs n k i ⌝ }
+    ensures { λ r. ⌜ r ≡ partOf n k backward (numberOf n k i) ⌝ }
+{
+    let block = gray::block_number(n, k, i);
+    let stop = search_number(counts, n, k, backward, number_read(n, k, backward, block));
+    let cycles = if i == n { k - 1 } else { k };
+    Part {
+        block,
+        start: stop.start,
+        additions: stop.additions,
+        position: i,
+        cycles,
+        backward: backward != reads_backward(gray::block_at(n, k, block)),
+    }
+}
+
+// The identity, as long as the slice.
+fn write_identity(out: &mut [u8])
+    requires { ⌜ length (now out) ≤ 20 ⌝ }
+    ensures { λ _. ⌜ now (out .exit) ≡ positions (length (now (out .entry))) ⌝ }
+{
+    let mut i = 0;
+    while i < out.len() {
+        out[i] = (i + 1) as u8;
+        i += 1;
+    }
+}
+
+// The row at a place of S(n,k), read forward, in the first n bytes of `out`, and how many additions found it.
+fn unrank_forward(counts: &[u64], n: u64, k: u64, place: u64, out: &mut [u8]) -> u64
+    requires { ⌜ IsTable (now counts) ⌝ }
+    requires { ⌜ Readable n k place (length (now out)) ⌝ }
+    ensures row { λ _. ⌜ InFront n (rowAt (S n k) place) (now (out .entry)) (now (out .exit)) ⌝ }
+    ensures counted { λ r. ⌜ Additions n k false (rowAt (S n k) place) r ⌝ }
+{
+    unrank_reading(counts, n, k, false, place, out)
+}
+
+// The same where the list is read backward: place 0 is the last row.
+fn unrank_backward(counts: &[u64], n: u64, k: u64, place: u64, out: &mut [u8]) -> u64
+    requires { ⌜ IsTable (now counts) ⌝ }
+    requires { ⌜ Readable n k place (length (now out)) ⌝ }
+    ensures row { λ _. ⌜ InFront n (rowAt (reverse (S n k)) place) (now (out .entry)) (now (out .exit)) ⌝ }
+    ensures counted { λ r. ⌜ Additions n k true (rowAt (reverse (S n k)) place) r ⌝ }
+{
+    unrank_reading(counts, n, k, true, place, out)
+}
+
+// What both readings do: below the part that holds the place stands a row of n-1, read as the part says; n is added at its end, and exchanged with the value at the
+// part's position. Where k = n the identity is the only row.
+fn unrank_reading(counts: &[u64], n: u64, k: u64, backward: bool, place: u64, out: &mut [u8]) -> u64
+    requires { ⌜ IsTable (now counts) ⌝ }
+    requires { ⌜ Readable n k place (length (now out)) ⌝ }
+    ensures row { λ _. ⌜ InFront n (rowAt (readingOf backward n k) place) (now (out .entry)) (now (out .exit)) ⌝ }
+    ensures counted { λ r. ⌜ Additions n k backward (rowAt (readingOf backward n k) place) r ⌝ }
+{
+    let size = n as usize;
+    if n == k {
+        write_identity(&mut out[..size]);
+        return 0;
+    }
+    let part = part_at(counts, n, k, backward, place);
+    let rest = place - part.start;
+    let additions = if part.backward {
+        unrank_backward(counts, n - 1, part.cycles, rest, out)
     } else {
-        unrank_forward(counts, m, source.cycles, source.place, &mut out[..last]);
-    }
-    grow(n, source.position, out);
-}
-
-// The row of S(n,k) at a place, read forward.
-fn unrank_forward(counts: &[u64], n: u64, k: u64, place: u64, out: &mut [u8])
-    requires { ⌜ IsTable (now counts) ⌝ }
-    requires { ⌜ Readable n k place (length (now out)) ⌝ }
-    ensures { λ _. ⌜ now (out .exit) ≡ rowAt (S n k) place ⌝ }
-{
-    if n == 0 {
-        return;
-    }
-    unrank_from(counts, n, source_at(counts, n, k, place), out);
-}
-
-// The row of S(n,k) at a place, read backward: place 0 is the last row.
-fn unrank_backward(counts: &[u64], n: u64, k: u64, place: u64, out: &mut [u8])
-    requires { ⌜ IsTable (now counts) ⌝ }
-    requires { ⌜ Readable n k place (length (now out)) ⌝ }
-    ensures { λ _. ⌜ now (out .exit) ≡ rowAt (reverse (S n k)) place ⌝ }
-{
-    if n == 0 {
-        return;
-    }
-    let forward = stirling::entry(counts, n, k) - 1 - place;
-    unrank_from(counts, n, source_at(counts, n, k, forward), out);
+        unrank_forward(counts, n - 1, part.cycles, rest, out)
+    };
+    let at = (part.position - 1) as usize;
+    out[size - 1] = out[at];
+    out[at] = n as u8;
+    part.additions + additions
 }
 
 // The permutation at a place of S(n,k), written to `out`. Refusals in document 01's order; a refused call writes nothing.
@@ -217,70 +362,52 @@ pub fn unrank(n: u64, k: u64, place: u64, out: &mut [u8]) -> u8
     0
 }
 
-// The part of S(n,k) that has value n at position i: the blocks are passed, one after the other, and their rows counted, up to the one that puts n there.
-fn part_with(counts: &[u64], n: u64, k: u64, i: u64) -> Part
+// The place in S(n,k), read forward, of the permutation of a transposition array of n entries, and how many additions found it.
+fn rank_forward(counts: &[u64], a: &[u8], k: u64) -> Sum
     requires { ⌜ IsTable (now counts) ⌝ }
-    requires { ⌜ Occurs n k i ⌝ }
-    ensures { λ r. ⌜ IsPart n k i r ⌝ }
+    requires { ⌜ Rankable (now a) k ⌝ }
+    ensures place { λ r. ⌜ PlaceIn false (length (now (a .entry))) k (product (now (a .entry))) (r .starts) ⌝ }
+    ensures counted { λ r. ⌜ Additions (length (now (a .entry))) k false (product (now (a .entry))) (r .additions) ⌝ }
 {
-    let mut start = 0;
-    let mut j = 0;
-    loop {
-        let source = source_of(n, k, gray::block_at(n, k, j), 0);
-        if source.position == i {
-            return Part {
-                block: j,
-                start,
-                cycles: source.cycles,
-                backward: source.backward,
-            };
-        }
-        start += stirling::entry(counts, n - 1, source.cycles);
-        j += 1;
-    }
+    rank_reading(counts, a, k, false)
 }
 
-// The place in S(n,k) of the permutation of a transposition array that has an entry: the last entry names a part, and the entries before it the place
-// within the part, as it is read.
-fn rank_within(counts: &[u64], a: &[u8], k: u64) -> u64
+// The same where the list is read backward: place 0 is the last row.
+fn rank_backward(counts: &[u64], a: &[u8], k: u64) -> Sum
     requires { ⌜ IsTable (now counts) ⌝ }
-    requires { ⌜ 1 ≤ length (now a) ⌝ }
     requires { ⌜ Rankable (now a) k ⌝ }
-    ensures { λ r. ⌜ PlaceIn false (length (now (a .entry))) k (product (now (a .entry))) r ⌝ }
+    ensures place { λ r. ⌜ PlaceIn true (length (now (a .entry))) k (product (now (a .entry))) (r .starts) ⌝ }
+    ensures counted { λ r. ⌜ Additions (length (now (a .entry))) k true (product (now (a .entry))) (r .additions) ⌝ }
 {
+    rank_reading(counts, a, k, true)
+}
+
+// What both readings do: the last entry names a part of the list, and the entries before it the place in the list below, read as the part says. Where k = n the identity
+// stands at place 0.
+fn rank_reading(counts: &[u64], a: &[u8], k: u64, backward: bool) -> Sum
+    requires { ⌜ IsTable (now counts) ⌝ }
+    requires { ⌜ Rankable (now a) k ⌝ }
+    ensures place { λ r. ⌜ PlaceIn backward (length (now (a .entry))) k (product (now (a .entry))) (r .starts) ⌝ }
+    ensures counted { λ r. ⌜ Additions (length (now (a .entry))) k backward (product (now (a .entry))) (r .additions) ⌝ }
+{
+    let n = a.len() as u64;
+    if n == k {
+        return Sum {
+            starts: 0,
+            additions: 0,
+        };
+    }
     let last = a.len() - 1;
-    let part = part_with(counts, a.len() as u64, k, a[last] as u64);
-    let inner = if part.backward {
+    let part = part_with(counts, n, k, backward, a[last] as u64);
+    let below = if part.backward {
         rank_backward(counts, &a[..last], part.cycles)
     } else {
         rank_forward(counts, &a[..last], part.cycles)
     };
-    part.start + inner
-}
-
-// The place in S(n,k), read forward, of the permutation of a transposition array of n entries.
-fn rank_forward(counts: &[u64], a: &[u8], k: u64) -> u64
-    requires { ⌜ IsTable (now counts) ⌝ }
-    requires { ⌜ Rankable (now a) k ⌝ }
-    ensures { λ r. ⌜ PlaceIn false (length (now (a .entry))) k (product (now (a .entry))) r ⌝ }
-{
-    if a.len() == 0 {
-        return 0;
+    Sum {
+        starts: part.start + below.starts,
+        additions: part.additions + below.additions,
     }
-    rank_within(counts, a, k)
-}
-
-// The place in S(n,k), read backward, of the permutation of a transposition array of n entries: place 0 is the last row.
-fn rank_backward(counts: &[u64], a: &[u8], k: u64) -> u64
-    requires { ⌜ IsTable (now counts) ⌝ }
-    requires { ⌜ Rankable (now a) k ⌝ }
-    ensures { λ r. ⌜ PlaceIn true (length (now (a .entry))) k (product (now (a .entry))) r ⌝ }
-{
-    if a.len() == 0 {
-        return 0;
-    }
-    let forward = rank_within(counts, a, k);
-    stirling::entry(counts, a.len() as u64, k) - 1 - forward
 }
 
 // How many entries i of a transposition array are i itself: the number of cycles of its permutation.
@@ -354,63 +481,41 @@ pub fn rank(s: &[u8]) -> Standing
     let n = s.len();
     let array = entries.array;
     let counts = stirling::table();
-    let place = rank_forward(&counts, &array[..n], entries.k);
+    let sum = rank_forward(&counts, &array[..n], entries.k);
     Standing {
         refusal: 0,
         k: entries.k,
-        place,
+        place: sum.starts,
     }
 }
 
-// The step of S(n,k), read forward or backward, for a permutation that has value n at position i. Read backward, the rows after its part come before it.
-fn rung_at(counts: &[u64], n: u64, k: u64, backward: bool, i: u64) -> Rung
-    requires { ⌜ IsTable (now counts) ⌝ }
-    requires { ⌜ Occurs n k i ⌝ }
-    ensures { λ r. ⌜ r ≡ record {
-      step = step n k backward i;
-      cycles = cyclesOf k (blockWith n k i);
-      backward = turned backward (backwardOf (blockWith n k i));
-    } ⌝ }
-{
-    let part = part_with(counts, n, k, i);
-    let mut before = part.start;
-    if backward {
-        before = stirling::entry(counts, n, k)
-            - part.start
-            - stirling::entry(counts, n - 1, part.cycles);
-    }
-    Rung {
-        step: Step {
-            cycles: k,
-            backward,
-            block: part.block,
-            before,
-        },
-        cycles: part.cycles,
-        backward: backward != part.backward,
-    }
-}
-
-// The steps of the permutation of a transposition array of n entries, from S(n,k) down.
-fn descend_from(counts: &[u64], a: &[u8], k: u64) -> [Step; 20]
+// The steps of the permutation of a transposition array of n entries, from S(n,k) down, and how many additions found them.
+fn descend_from(counts: &[u64], a: &[u8], k: u64) -> Path
     requires { ⌜ IsTable (now counts) ⌝ }
     requires { ⌜ Rankable (now a) k ⌝ }
-    ensures { λ r. ⌜ r ≡ steps (length (now (a .entry))) k false (product (now (a .entry))) ++ replicate (20 - length (now (a .entry))) still ⌝ }
+    ensures steps { λ r. ⌜ r .steps ≡ steps (length (now (a .entry))) k false (product (now (a .entry))) ++ replicate (20 - length (now (a .entry))) still ⌝ }
+    ensures counted { λ r. ⌜ Additions (length (now (a .entry))) k false (product (now (a .entry))) (r .additions) ⌝ }
 {
     let n = a.len();
     let mut steps = [STILL; 20];
+    let mut additions = 0;
     let mut cycles = k;
     let mut backward = false;
     let mut m = n;
     while m > 0 {
-        let rung = rung_at(counts, m as u64, cycles, backward, a[m - 1] as u64);
-        let step = rung.step;
-        steps[n - m] = step;
-        cycles = rung.cycles;
-        backward = rung.backward;
+        let part = part_with(counts, m as u64, cycles, backward, a[m - 1] as u64);
+        steps[n - m] = Step {
+            cycles,
+            backward,
+            block: part.block,
+            before: part.start,
+        };
+        additions += part.additions;
+        cycles = part.cycles;
+        backward = part.backward;
         m -= 1;
     }
-    steps
+    Path { steps, additions }
 }
 
 // The steps of a permutation down through the lists, and its number of cycles. Refusals 1, 6, 7, as its array is made.
@@ -428,7 +533,8 @@ pub fn descend(s: &[u8]) -> Descent
     let n = s.len();
     let array = entries.array;
     let counts = stirling::table();
-    let steps = descend_from(&counts, &array[..n], entries.k);
+    let path = descend_from(&counts, &array[..n], entries.k);
+    let steps = path.steps;
     Descent {
         refusal: entries.refusal,
         k: entries.k,

@@ -1,15 +1,14 @@
 -- `gray::block_at` meets its contract: the letter picks the relation, whose blocks are those of S(n,k). Assumes nothing.
 use borrow.Author.Needs.{needs}
 use mathlib.Core.Path.{_≡_, refl, sym, _∙_}
-use Prim.Native.Nat.{ℕ, zero, suc, _+_, _≤_}
+use Prim.Native.Nat.{ℕ, zero, suc}
 use mathlib.Core.List.{[], _∷_}
 use Rattle.gray.specs.declared.Block.the-variants.{Extend as E}
 use Rattle.gray.specs.declared.Letter.{Letter}
-use Rattle.gray.specs.declared.Letter.the-variants.{Nothing as none, A as by-a, B as by-b, C as by-c, D as by-d, E as by-e}
 use Rattle.gray.specs.Order.{letter}
 use Rattle.gray.specs.Blocks.{blocks, blocksOf}
 use Rattle.gray.proofs.Indexed.{block}
-use Rattle.gray.proofs.Which.{Which, is-none, is-a, is-b, is-c, is-d, is-e, which}
+use Rattle.gray.proofs.Which.{said}
 use Rattle.gray.proofs.block_at.Statement.{statement}
 use Rattle.gray.proofs.block_at.Tie as tie
 
@@ -17,26 +16,6 @@ use Rattle.gray.proofs.block_at.Tie as tie
 picked : (n k j : ℕ) {l : Letter} → letter n k ≡ l → block (blocksOf l n k) j ≡ block (blocks n k) j
 unfolding blocks
 picked n k j e = rw e
-
--- what a letter says of n and k, where the relation asks for it
-abbrev Says : Letter → ℕ → ℕ → Type 0
-Says none n k = Unit
-Says by-a n k = Unit
-Says by-b n k = Unit
-Says by-c n k = 3 ≤ n
-Says by-d n k = 4 ≤ n
-Says by-e n k = (2 ≤ k) × (k + 3 ≤ n)
-
-says : (n k : ℕ) → Which n k → Says (letter n k) n k
-says n k (is-none e _) = rw e tt
-says n k (is-a e _ _) = rw e tt
-says n k (is-b e _ _) = rw e tt
-says n k (is-c e _ h) = rw e h
-says n k (is-d e _ h) = rw e h
-says n k (is-e e h l) = rw e (h, l)
-
-said : (n k : ℕ) {l : Letter} → letter n k ≡ l → Says l n k
-said n k e = rw e at (says n k (which n k))
 
 single : (j : ℕ) → E 0 ≡ block (E 0 ∷ []) j
 single zero = refl

@@ -42,13 +42,14 @@ descend-from-requires c κs =
 
 returns-2 : tie.Need-returns-2
 returns-2 c =
-    let o = c .before .before .before .before .before in
+    let d = c .before in
+    let o = d .before .before .before .before .before in
     let read = o .before .before .entries-of .ensures in
     let array = entries-array read (o .if1 .left) in
     record {
       refusal = read .refusal;
       count = read .count;
-      path = λ z. c .descend-from .ensures ∙ rw (array .array .size, array .equal, read .count z);
+      path = λ z. d .descend-from .ensures .0 ∙ rw (array .array .size, array .equal, read .count z);
       zeros = λ h. absurd (h (o .if1 .left));
     }
 

@@ -1,52 +1,39 @@
 -- `rank::extension_index` meets its contract: its tests tell the relations apart. Assumes nothing.
 use borrow.Author.Needs.{needs}
-use Prim.Native.Nat.{_≤_}
-use native.Mathlib.Omega.{arith}
-use Rattle.stirling.proofs.Counts.{inside, cycles-passed}
 use Rattle.rank.proofs.Extension.{extends-at}
 use Rattle.rank.proofs.extension_index.Statement.{statement}
 use Rattle.rank.proofs.extension_index.Tie as tie
 
--- k is at most n, and n at most 20
-most : (s : tie.Start) → (s .args .k ≤ s .args .n) × (s .args .n ≤ 20)
-most s =
-    let (small, place) = cycles-passed (s .args .n) (s .args .k) (s .pre) in
-    (inside (s .args .n) (s .args .k) 0 place .1, small)
-
 sub-result : tie.Need-sub-result
-sub-result c = omega (arith, most (c .before))
+sub-result c = search needs
 
 returns : tie.Need-returns
 returns c =
     let s = c .before in
-    let bound = most s in
     extends-at (s .args .n) (s .args .k) _ (search needs)
 
 add-if2 : tie.Need-add-if2
-add-if2 c = omega (arith, most (c .before))
+add-if2 c = search needs
 
 returns-2 : tie.Need-returns-2
 returns-2 c =
     let s = c .before .before in
-    let bound = most s in
     extends-at (s .args .n) (s .args .k) _ (search needs)
 
 add-if3 : tie.Need-add-if3
-add-if3 c = omega (arith, most (c .before .before))
+add-if3 c = search needs
 
 returns-3 : tie.Need-returns-3
 returns-3 c =
     let s = c .before .before .before in
-    let bound = most s in
     extends-at (s .args .n) (s .args .k) _ (search needs)
 
 sub-result-2 : tie.Need-sub-result-2
-sub-result-2 c = omega (arith, most (c .before .before .before))
+sub-result-2 c = search needs
 
 returns-4 : tie.Need-returns-4
 returns-4 c =
     let s = c .before .before .before in
-    let bound = most s in
     extends-at (s .args .n) (s .args .k) _ (search needs)
 
 pub extension-index-spec : {M : Type 1} → statement M

@@ -46,7 +46,7 @@ returns-2 c =
     let read = o .before .before .entries-of .ensures in
     record {
       refusal = sym (o .if1 .left) ∙ read .refusal;
-      answer = λ _. stands read (o .if1 .left) (c .rank-forward .ensures);
+      answer = λ _. stands read (o .if1 .left) (c .rank-forward .ensures .0);
       zeros = λ h. absurd (h refl);
     }
 

@@ -10,6 +10,7 @@ use Rattle.stirling.proofs.Refusals.{then-passes, then-stops}
 use Rattle.stirling.proofs.Counts.{place-passed, place-by-table}
 use Rattle.perm.specs.Checks.{checkLent}
 use Rattle.rank.specs.Place.{checkUnrank}
+use Rattle.rank.proofs.Filling.{all-front}
 use Rattle.rank.proofs.unrank.Statement.{statement}
 use Rattle.rank.proofs.unrank.Tie as tie
 
@@ -62,20 +63,21 @@ unrank-forward-requires c κs =
     let b = c .before .before .before .before in
     let e = b .before .before .before .before in
     let p = place-passed (e .args .n) (e .args .k) (e .args .place) (sym (is-place b) ∙ c .before .before .before .if1 .left) in
-    (b .before .before .table .ensures, record { small = p .0; below = p .1; lent = c .before .before .if2 .left })
+    (b .before .before .table .ensures, record { small = p .0; below = omega (arith, p .1); lent = omega (arith, c .before .before .if2 .left) })
 
 same-length : tie.Need-same-length
 same-length c = search needs
 
 returns-3 : tie.Need-returns-3
 returns-3 c =
+    let u = c .before .before in
     let b = c .before .before .before .before .before in
     let p = b .before .before in
     let e = p .before .before .before .before in
     let z = sym (is-place p) ∙ b .before .if1 .left in
     record {
       refusal = sym (passed (e .args .n) (e .args .k) (e .args .place) (length (e .args .out .now)) z (b .if2 .left));
-      written = λ _. c .before .before .unrank-forward .ensures;
+      written = λ _. all-front (u .unrank-forward .ensures .0) (u .unrank-forward .kept .1 .1 .1 .1 .0) (b .if2 .left);
       kept = λ h. absurd (h refl);
     }
 

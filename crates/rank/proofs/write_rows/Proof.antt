@@ -10,6 +10,7 @@ use Rattle.stirling.proofs.Counts.{fits}
 use Rattle.rank.specs.Place.{rowsFrom}
 use Rattle.rank.proofs.RowChecks.{row-count-passed, few-bytes}
 use Rattle.rank.proofs.RowBytes.{no-rows, next-row, row-lent, turn}
+use Rattle.rank.proofs.Filling.{all-front}
 use Rattle.rank.proofs.write_rows.Statement.{statement}
 use Rattle.rank.proofs.write_rows.Tie as tie
 
@@ -64,7 +65,8 @@ unrank-forward-requires c κs =
     let head = c .before .before .loop in
     let on = row-count-passed (a .n) (a .k) (a .place) (a .m) (s .pre .1 .0) in
     let room = next-row (head .row) (a .m) (a .n) (omega arith) in
-    (s .pre .0, record { small = on .0; below = omega arith; lent = row-lent (a .n) (head .row) _ (head .part) refl (omega arith) })
+    let lent = row-lent (a .n) (head .row) _ (head .part) refl (omega arith) in
+    (s .pre .0, record { small = on .0; below = omega arith; lent = omega (arith, lent) })
 
 add-row : tie.Need-add-row Inv-loop μ-loop
 add-row c = search needs
@@ -77,10 +79,14 @@ loop-again c =
     let start = c .before .before .before .before .before .before .before .before in
     let a = start .args in
     let head = c .before .before .before .before .before .loop in
-    let on = row-count-passed (a .n) (a .k) (a .place) (a .m) (start .pre .1 .0) in (
+    let on = row-count-passed (a .n) (a .k) (a .place) (a .m) (start .pre .1 .0) in
+    let room = next-row (head .row) (a .m) (a .n) (omega arith) in
+    let lent = row-lent (a .n) (head .row) _ (head .part) refl (omega arith) in
+    let u = c .before .before .unrank-forward in
+    let row = all-front (u .ensures .0) (u .kept .1 .1 .1 .1 .0) lent in (
       search needs,
       omega arith,
-      turn (a .n) (a .k) (a .place) (head .row) _ (head .part) _ _ (omega arith) refl (head .inv .2) (c .before .before .unrank-forward .ensures),
+      turn (a .n) (a .k) (a .place) (head .row) _ (head .part) _ _ (omega arith) refl (head .inv .2) row,
     )
 
 same-length : tie.Need-same-length Inv-loop μ-loop
