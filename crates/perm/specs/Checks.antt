@@ -5,11 +5,12 @@ use mathlib.Core.Bool.{not}
 use mathlib.Core.List.{List}
 use lib.Dec.{eqb, ltb}
 use lib.ListN.{length}
-use Rattle.stirling.specs.Refusal.{refuse, _then_, within}
+use Rattle.stirling.specs.Refusal.{refuse, _then_, unless, within}
 use Rattle.stirling.specs.Count.{checkSize}
 use Rattle.perm.specs.Lists.{tally, some, positions}
-use Rattle.perm.specs.Permutation.{at}
+use Rattle.perm.specs.Permutation.{at, fixed}
 use Rattle.perm.specs.Array.{IsArrayOf, product}
+use Rattle.perm.specs.declared.Array.{Array}
 
 -- check 5: the written slice is not n long
 abbrev pub checkLent : ℕ → ℕ → ℕ
@@ -39,11 +40,12 @@ checkToArray s size = checkSize (length s) then checkLent (length s) size then c
 abbrev pub checkFromArray : List ℕ → ℕ → ℕ
 checkFromArray p size = checkSize (length p) then checkLent (length p) size then checkEntries p
 
--- permutation to array, from s into a slice that held `before` and then holds `after`, with the refusal r
-pub record ToArray (s before : List ℕ) (r : ℕ) (after : List ℕ) : Type 0 where
-  pub refusal : r ≡ checkToArray s (length before)
-  pub written : r ≡ 0 → IsArrayOf s after
-  pub kept : (r ≡ 0 → ⊥) → after ≡ before
+-- permutation to array, from s into a slice that held `before` and then holds `after`: the refusal, and the number of fixed points of s, 0 on a refusal
+pub record ToArray (s before : List ℕ) (r : Array) (after : List ℕ) : Type 0 where
+  pub refusal : r .refusal ≡ checkToArray s (length before)
+  pub number : r .fixed ≡ unless (r .refusal) (fixed s) 0
+  pub written : r .refusal ≡ 0 → IsArrayOf s after
+  pub kept : (r .refusal ≡ 0 → ⊥) → after ≡ before
 
 -- array to permutation, from p into a slice that held `before` and then holds `after`, with the refusal r
 pub record FromArray (p before : List ℕ) (r : ℕ) (after : List ℕ) : Type 0 where

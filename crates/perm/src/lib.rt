@@ -4,7 +4,7 @@ ghost use Prim.Native.Nat.{ℕ, _≤_, _<_};
 ghost use lib.ListN.{length, getD};
 ghost use Rattle.stirling.specs.Refusal.{within, _then_};
 ghost use Rattle.stirling.specs.Count.{checkSize};
-ghost use Rattle.perm.specs.Permutation.{IsPermutation};
+ghost use Rattle.perm.specs.Permutation.{IsPermutation, fixed};
 ghost use Rattle.perm.specs.Array.{IsArray, IsArrayOf, product};
 ghost use Rattle.perm.specs.Checks.{checkLent, checkValues, checkTwice, checkEntries, checkPermutation, ToArray, FromArray};
 
@@ -14,6 +14,19 @@ pub const REFUSED_LENT: u8 = 5;
 pub const REFUSED_VALUE: u8 = 6;
 // Check 7: a value twice.
 pub const REFUSED_TWICE: u8 = 7;
+
+// What turning a permutation into its array answers: the refusal, and how many values stand at their own position. 0 on a refusal.
+#[repr(C)]
+pub struct Array {
+    pub refusal: u8,
+    pub fixed: u64,
+}
+
+// What copying a permutation finds: the index of each value, by the value, and how many values stand at their own position.
+struct Copied {
+    index: [u8; 21],
+    fixed: u64,
+}
 
 // Whether a value is 1 to n.
 fn in_range(v: u8, n: usize) -> bool
@@ -112,29 +125,36 @@ fn check_lengths(read: usize, lent: usize) -> u8
     0
 }
 
-// The permutation s, written to a slice of its length. Gives the index of each value, by the value.
-fn copy_indexed(s: &[u8], out: &mut [u8]) -> [u8; 21]
+// The permutation s, written to a slice of its length. Its fixed points are counted on the way, since this is where s is read.
+fn copy_indexed(s: &[u8], out: &mut [u8]) -> Copied
     requires { ⌜ (length (now s) ≤ 20) × (length (now out) ≡ length (now s)) × IsPermutation (length (now s)) (now s) ⌝ }
-    ensures { λ r. ⌜ (now (out .exit) ≡ now (s .entry)) × (length r ≡ 21) × ((j : ℕ) → j < length (now (s .entry)) → getD r (getD (now (s .entry)) j 0) 0 ≡ j) ⌝ }
+    ensures copied { λ r. ⌜ (now (out .exit) ≡ now (s .entry)) × (length (r .index) ≡ 21) × ((j : ℕ) → j < length (now (s .entry)) → getD (r .index) (getD (now (s .entry)) j 0) 0 ≡ j) ⌝ }
+    ensures counted { λ r. ⌜ r .fixed ≡ fixed (now (s .entry)) ⌝ }
 {
     let mut index = [0u8; 21];
+    let mut fixed = 0;
     let mut i = 0;
     while i < s.len() {
         let v = s[i];
+        if wide(v) == i + 1 {
+            fixed += 1;
+        }
         out[i] = v;
         index[wide(v)] = i as u8;
         i += 1;
     }
-    index
+    Copied { index, fixed }
 }
 
 // The array of the permutation s. From the last position down: the value m stands at index i of the first m, so entry m is i + 1,
-// and the value at position m takes its place, and its index.
-fn write_array(s: &[u8], out: &mut [u8])
+// and the value at position m takes its place, and its index. Gives the number of fixed points of s.
+fn write_array(s: &[u8], out: &mut [u8]) -> u64
     requires { ⌜ (length (now s) ≤ 20) × (length (now out) ≡ length (now s)) × IsPermutation (length (now s)) (now s) ⌝ }
-    ensures { λ r. ⌜ IsArrayOf (now (s .entry)) (now (out .exit)) ⌝ }
+    ensures written { λ _. ⌜ IsArrayOf (now (s .entry)) (now (out .exit)) ⌝ }
+    ensures counted { λ r. ⌜ r ≡ fixed (now (s .entry)) ⌝ }
 {
-    let mut index = copy_indexed(s, out);
+    let copied = copy_indexed(s, out);
+    let mut index = copied.index;
     let mut m = out.len();
     while 0 < m {
         let i = index[m];
@@ -143,6 +163,7 @@ fn write_array(s: &[u8], out: &mut [u8])
         out[wide(i)] = out[m];
         out[m] = i + 1;
     }
+    copied.fixed
 }
 
 // The permutation of the array a. From the first position up: position m takes the value at the position that entry m names, which takes the value m.
@@ -159,20 +180,28 @@ fn write_product(a: &[u8], out: &mut [u8])
     }
 }
 
-// The array of the permutation s, written to `out`. Refusals 1, 5, 6, 7 in document 01's order; a refused call writes nothing.
-pub fn to_array(s: &[u8], out: &mut [u8]) -> u8
+// The array of the permutation s, written to `out`, and the number of fixed points of s. Refusals 1, 5, 6, 7 in document 01's order; a refused call writes nothing.
+pub fn to_array(s: &[u8], out: &mut [u8]) -> Array
     ensures { λ r. ⌜ ToArray (now (s .entry)) (now (out .entry)) r (now (out .exit)) ⌝ }
 {
     let lengths = check_lengths(s.len(), out.len());
     if lengths != 0 {
-        return lengths;
+        return Array {
+            refusal: lengths,
+            fixed: 0,
+        };
     }
     let contents = check_contents(s);
     if contents != 0 {
-        return contents;
+        return Array {
+            refusal: contents,
+            fixed: 0,
+        };
     }
-    write_array(s, out);
-    0
+    Array {
+        refusal: 0,
+        fixed: write_array(s, out),
+    }
 }
 
 // The permutation of the array a, written to `out`. Refusals 1, 5, 6 in document 01's order; a refused call writes nothing.

@@ -1,7 +1,7 @@
--- `perm::to_array` meets its contract: a refused call writes nothing, and where no check refuses it is handed a permutation. Assumes nothing.
+-- `perm::to_array` meets its contract: a refused call writes nothing and reports 0, and where no check refuses it is handed a permutation. Assumes nothing.
 use mathlib.Core.Path.{refl, sym, _∙_}
 use borrow.Author.Needs.{needs}
-use Rattle.stirling.proofs.Refusals.{then-stops}
+use Rattle.stirling.proofs.Refusals.{then-stops, unless-refuses}
 use Rattle.perm.proofs.Refused.{next-two, lengths-passed, contents-passed}
 use Rattle.perm.proofs.to_array.Statement.{statement}
 use Rattle.perm.proofs.to_array.Tie as tie
@@ -13,6 +13,7 @@ returns : tie.Need-returns
 returns c =
     record {
       refusal = then-stops _ _ _ (then-stops _ _ _ (c .before .check-lengths .ensures) (c .if1 .taken)) (c .if1 .taken);
+      number = sym (unless-refuses _ _ 0 (c .if1 .taken));
       written = λ e. absurd (c .if1 .taken e);
       kept = λ d. refl;
     }
@@ -26,6 +27,7 @@ returns-2 c =
     let lengths = sym (b .before .check-lengths .ensures) ∙ b .if1 .left in
     record {
       refusal = next-two _ _ _ lengths (c .before .check-contents .ensures);
+      number = sym (unless-refuses _ _ 0 (c .if2 .taken));
       written = λ e. absurd (c .if2 .taken e);
       kept = λ d. refl;
     }
@@ -48,7 +50,8 @@ returns-3 c =
     let lengths = sym (b .before .check-lengths .ensures) ∙ b .if1 .left in
     record {
       refusal = next-two _ _ _ lengths (sym (d .if2 .left) ∙ d .before .check-contents .ensures);
-      written = λ e. c .before .before .write-array .ensures;
+      number = c .before .before .write-array .ensures .1;
+      written = λ e. c .before .before .write-array .ensures .0;
       kept = λ h. absurd (h refl);
     }
 

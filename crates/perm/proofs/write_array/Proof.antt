@@ -1,5 +1,5 @@
 -- `perm::write_array` meets its contract. The loop's invariant is `Left`: the first m of `out` are the permutation that is left, the others are entries;
--- and `Indexed`: the first m have their indices. Assumes nothing.
+-- and `Indexed`: the first m have their indices. The fixed points were counted as the permutation was copied. Assumes nothing.
 use Prim.Native.Nat.{_≤_, _<_}
 use native.Mathlib.Omega.{arith}
 use mathlib.Core.Path.{_≡_, sym, _∙_}
@@ -10,25 +10,25 @@ use Rattle.perm.proofs.write_array.Statement.{statement}
 use Rattle.perm.proofs.write_array.Tie as tie
 
 abbrev Inv-loop : tie.InvT-loop
-Inv-loop s out₀ index₀ m₀ out index m = Left s out m × Indexed out index m
+Inv-loop s out₀ copied index₀ m₀ out index m = Left s out m × Indexed out index m
 
 abbrev μ-loop : tie.MeasureT-loop
-μ-loop s out₀ index₀ m₀ out index m = m
+μ-loop s out₀ copied index₀ m₀ out index m = m
 
 copy-indexed-requires : tie.Need-copy-indexed-requires Inv-loop μ-loop
 copy-indexed-requires c κs = c .before .before .before .pre
 
 loop-holds : tie.Need-loop-holds Inv-loop μ-loop
 loop-holds c =
-    let b = c .before .before in
-    let x = b .copy-indexed .ensures in
+    let b = c .before .before .before in
+    let x = b .copy-indexed .ensures .0 in
     rw (x .0) (left-all (b .before .before .before .before .pre .2), record { size = x .1; index-of = x .2 })
 
 -- the lengths, in the loop
 lengths : (c : tie.In-loop Inv-loop μ-loop) → (c .before .loop .m ≤ length (c .before .loop .out)) × (length (c .before .loop .out) ≤ 20)
 lengths c =
     let left = c .before .loop .inv .0 in
-    (left .bound, omega (arith, left .size, c .before .before .before .before .before .before .before .before .pre .0))
+    (left .bound, omega (arith, left .size, c .before .before .before .before .before .before .before .before .before .pre .0))
 
 -- the value m stands at the index that is looked up, below m
 there : (c : tie.In-loop Inv-loop μ-loop)
@@ -83,10 +83,12 @@ loop-again c =
     (left-step (b .m) _ (b .inv .0) (t .0) (t .1), indexed-move (b .m) (b .inv .0 .rest) (b .inv .1) _ _ (l .0) (l .1) (t .0) (c .before .before .wide .ensures))
 
 same-length : tie.Need-same-length Inv-loop μ-loop
-same-length c = c .before .loop .inv .0 .size ∙ sym (c .before .before .before .before .before .before .before .before .pre .1)
+same-length c = c .before .loop .inv .0 .size ∙ sym (c .before .before .before .before .before .before .before .before .before .pre .1)
 
 returns : tie.Need-returns Inv-loop μ-loop
-returns c = let e : c .before .loop .m ≡ 0 = omega arith in left-none (rw e at (c .before .loop .inv .0))
+returns c =
+    let e : c .before .loop .m ≡ 0 = omega arith in
+    (left-none (rw e at (c .before .loop .inv .0)), c .before .before .before .before .before .copy-indexed .ensures .1)
 
 pub write-array-spec : {M : Type 1} → statement M
 write-array-spec =
