@@ -7,7 +7,7 @@ use borrow.Author.Tests.{eq-eqb}
 use Rattle.stirling.specs.Count.{c, checkSize, checkPlace}
 use Rattle.stirling.proofs.Refusals.{then-passed}
 use Rattle.stirling.proofs.Counts.{size-passes, size-passed, place-passed, place-passes}
-use Rattle.perm.specs.Permutation.{IsPermutation}
+use Rattle.perm.specs.Permutation.{IsPermutation, fixed}
 use Rattle.perm.specs.Cycle.{cycles}
 use Rattle.perm.specs.Checks.{checkLent, checkValues, checkTwice}
 use Rattle.perm.proofs.Checked.{passes}
@@ -32,11 +32,11 @@ stands n k place s h e j q at =
 pub one-standing : {s : List ℕ} {j q k place : ℕ} → StandsAt s j q → StandsAt s k place → (j ≡ k) × (q ≡ place)
 one-standing {s} {j} {q} {k} {place} v w = stands (length s) k place s (w .below) (sym (w .row)) j q v
 
--- the place of the permutation that was written for a place is that place
+-- the place of the permutation that was written for a place is that place, and its fixed points are counted
 pub place-back : {n k place : ℕ} {before after : List ℕ} → Unranked n k place before 0 after
     → (r : Standing)
     → Ranked after r
-    → r ≡ record { refusal = 0; k = k; place = place }
+    → r ≡ record { refusal = 0; k = k; place = place; fixed = fixed after }
 place-back {n} {k} {place} {before} {after} u r ranked =
     let passed = then-passed (checkPlace n k place) (checkLent n (length before)) (sym (u .refusal)) in
     let (most, below) = place-passed n k place (passed .0) in
@@ -44,7 +44,8 @@ place-back {n} {k} {place} {before} {after} u r ranked =
     let permutation : IsPermutation n after = rw (u .written refl) (row .permutation) in
     let none : r .refusal ≡ 0 = ranked .refusal ∙ passes (size-passes n most) permutation in
     let (same-k, same-place) = stands n k place after below (u .written refl) (r .k) (r .place) (ranked .answer none) in
-    λ i. record { refusal = none i; k = same-k i; place = same-place i }
+    let same-fixed : r .fixed ≡ fixed after = rw none at (ranked .number) in
+    λ i. record { refusal = none i; k = same-k i; place = same-place i; fixed = same-fixed i }
 
 -- the permutation that is written for the place of a permutation is that permutation
 pub permutation-back : {s before after : List ℕ} {r : Standing} {q : ℕ} → Ranked s r

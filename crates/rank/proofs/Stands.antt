@@ -17,6 +17,7 @@ use Rattle.perm.specs.Permutation.{IsPermutation, at}
 use Rattle.perm.specs.Cycle.{cycles}
 use Rattle.perm.specs.Array.{IsArrayOf, product, arrayOf}
 use Rattle.perm.specs.Checks.{checkValues, checkTwice, checkPermutation, ToArray}
+use Rattle.perm.specs.declared.Array.{Array}
 use Rattle.perm.proofs.Arrays.{product-permutation, cycles-product}
 use Rattle.perm.proofs.ArrayOf.{array-of, is-array-of}
 use Rattle.perm.proofs.Checked.{checked}
@@ -37,13 +38,13 @@ module _ (s : List ℕ) (size : checkSize (length s) ≡ 0) (z : List ℕ) (e : 
   pub front-lent : length (take (length s) z) ≡ length s
   front-lent = length-take-le (length s) z (omega (arith, few-values s size))
 
-  module _ {after : List ℕ} {r : ℕ} (w : ToArray s (take (length s) z) r after) where
+  module _ {after : List ℕ} {r : Array} (w : ToArray s (take (length s) z) r after) where
     -- the refusal is that of checks 1, 6 and 7
-    pub array-refusal : r ≡ checkPermutation s
+    pub array-refusal : r .refusal ≡ checkPermutation s
     array-refusal = w .refusal ∙ rw (size, eq-eqb _ _ front-lent)
 
     -- where there is none, the array is read from there
-    module _ (passed : r ≡ 0) where
+    module _ (passed : r .refusal ≡ 0) where
       pub array-read : IsArrayOf s (take (length s) (after ++ drop (length s) z))
       array-read = rw (take-at after (drop (length s) z) (length s) (w .written passed .array .size)) (w .written passed)
 

@@ -5,8 +5,9 @@ use mathlib.Core.Bool.{not, _||_}
 use mathlib.Core.List.{List, _++_, flatten}
 use lib.Dec.{ltb}
 use lib.ListN.{length, take, drop}
-use Rattle.stirling.specs.Refusal.{refuse, _then_, within}
+use Rattle.stirling.specs.Refusal.{refuse, _then_, unless, within}
 use Rattle.stirling.specs.Count.{c, checkPlace}
+use Rattle.perm.specs.Permutation.{fixed}
 use Rattle.perm.specs.Cycle.{cycles}
 use Rattle.perm.specs.Checks.{checkLent, checkPermutation}
 use Rattle.gray.specs.Order.{S}
@@ -29,10 +30,11 @@ pub record StandsAt (s : List ℕ) (k place : ℕ) : Type 0 where
   pub below : place < c (length s) k
   pub row : rowAt (S (length s) k) place ≡ s
 
--- place of a permutation: checks 1, 6, 7; k and the place, or zeros
+-- place of a permutation: checks 1, 6, 7; k and the place, or zeros; and the number of fixed points of s, 0 on a refusal
 pub record Ranked (s : List ℕ) (r : Standing) : Type 0 where
   pub refusal : r .refusal ≡ checkPermutation s
   pub answer : r .refusal ≡ 0 → StandsAt s (r .k) (r .place)
+  pub number : r .fixed ≡ unless (r .refusal) (fixed s) 0
   pub zeros : (r .refusal ≡ 0 → ⊥) → (r .k ≡ 0) × (r .place ≡ 0)
 
 -- the rows asked for: checks 1, 2, 3; then 4: m not 1 to 1,000, or m > c(n,k) − r

@@ -6,7 +6,9 @@ use mathlib.Core.Bool.{Bool, cond}
 use mathlib.Core.List.{List, _++_}
 use lib.Dec.{eqb}
 use lib.ListN.{length, replicate}
+use Rattle.stirling.specs.Refusal.{unless}
 use Rattle.stirling.specs.Count.{c}
+use Rattle.perm.specs.Permutation.{fixed}
 use Rattle.perm.specs.Cycle.{cycles}
 use Rattle.perm.specs.Array.{IsArray, product, arrayOf}
 use Rattle.perm.specs.Checks.{checkPermutation}
@@ -25,11 +27,12 @@ pub record Occurs (n k i : ℕ) : Type 0 where
   pub listed : Listed n k
   pub inside : numberOf n k i < length (blocks n k)
 
--- the array of a permutation that is read, followed by zeros to 20 bytes, and its number of cycles: checks 1, 6, 7; or zeros
+-- the array of a permutation that is read, followed by zeros to 20 bytes, and its number of cycles: checks 1, 6, 7; or zeros; and its number of fixed points, 0 on a refusal
 pub record HasEntries (s : List ℕ) (r : Entries) : Type 0 where
   pub refusal : r .refusal ≡ checkPermutation s
   pub array : r .refusal ≡ 0 → r .array ≡ arrayOf (length s) s ++ replicate (20 - length s) 0
   pub count : r .refusal ≡ 0 → r .k ≡ cycles s
+  pub number : r .fixed ≡ unless (r .refusal) (fixed s) 0
   pub zeros : (r .refusal ≡ 0 → ⊥) → (r .k ≡ 0) × (r .array ≡ replicate 20 0)
 
 -- a transposition array of at most 20 entries, whose permutation has k cycles

@@ -25,12 +25,13 @@ pub const REFUSED_ROWS: u8 = 4;
 // The most rows of one call.
 const MOST_ROWS: u64 = 1000;
 
-// Where a permutation stands: its number of cycles k, and its place in S(n,k). Zeros on a refusal.
+// Where a permutation stands: its number of cycles k, and its place in S(n,k); and its number of fixed points. Zeros on a refusal.
 #[repr(C)]
 pub struct Standing {
     pub refusal: u8,
     pub k: u64,
     pub place: u64,
+    pub fixed: u64,
 }
 
 // The block of S(n,k) at which a search through a reading of the list stops: its number from 0 in that reading, and how many rows of the reading stand before it. The
@@ -72,10 +73,11 @@ struct Sum {
     additions: u64,
 }
 
-// The transposition array of a permutation, followed by zeros, and its number of cycles. Zeros on a refusal.
+// The transposition array of a permutation, followed by zeros, and the permutation's number of cycles and of fixed points. Zeros on a refusal.
 struct Entries {
     refusal: u8,
     k: u64,
+    fixed: u64,
     array: [u8; 20],
 }
 
@@ -427,28 +429,30 @@ fn fixed_entries(a: &[u8]) -> u64
 
 // A refusal, with no array.
 fn unread(refusal: u8) -> Entries
-    ensures { λ r. ⌜ r ≡ record { refusal = refusal; k = 0; array = replicate 20 0 } ⌝ }
+    ensures { λ r. ⌜ r ≡ record { refusal = refusal; k = 0; fixed = 0; array = replicate 20 0 } ⌝ }
 {
     Entries {
         refusal,
         k: 0,
+        fixed: 0,
         array: [0u8; 20],
     }
 }
 
 // A refusal, with zeros.
 fn nowhere(refusal: u8) -> Standing
-    ensures { λ r. ⌜ (r .refusal ≡ refusal) × (r .k ≡ 0) × (r .place ≡ 0) ⌝ }
+    ensures { λ r. ⌜ r ≡ record { refusal = refusal; k = 0; place = 0; fixed = 0 } ⌝ }
 {
     Standing {
         refusal,
         k: 0,
         place: 0,
+        fixed: 0,
     }
 }
 
-// The transposition array of a permutation of n values, where n is the slice's length, and its number of cycles. Refusals in document 01's order: check 1,
-// and then checks 6 and 7 as the array is made.
+// The transposition array of a permutation of n values, where n is the slice's length, and its number of cycles and of fixed points. Refusals in document 01's
+// order: check 1, and then checks 6 and 7 as the array is made.
 fn entries_of(s: &[u8]) -> Entries
     ensures { λ r. ⌜ HasEntries (now (s .entry)) r ⌝ }
 {
@@ -458,19 +462,21 @@ fn entries_of(s: &[u8]) -> Entries
         return unread(size_refusal);
     }
     let mut array = [0u8; 20];
-    let array_refusal = perm::to_array(s, &mut array[..n]);
-    if array_refusal != 0 {
-        return unread(array_refusal);
+    let made = perm::to_array(s, &mut array[..n]);
+    if made.refusal != 0 {
+        return unread(made.refusal);
     }
     let k = fixed_entries(&array[..n]);
     Entries {
-        refusal: array_refusal,
+        refusal: made.refusal,
         k,
+        fixed: made.fixed,
         array,
     }
 }
 
-// Where a permutation stands: its number of cycles k, and its place in S(n,k), where n is the slice's length. Refusals 1, 6, 7, as its array is made.
+// Where a permutation stands: its number of cycles k, and its place in S(n,k), where n is the slice's length; and its number of fixed points. Refusals 1, 6, 7, as
+// its array is made.
 pub fn rank(s: &[u8]) -> Standing
     ensures { λ r. ⌜ Ranked (now (s .entry)) r ⌝ }
 {
@@ -486,6 +492,7 @@ pub fn rank(s: &[u8]) -> Standing
         refusal: 0,
         k: entries.k,
         place: sum.starts,
+        fixed: entries.fixed,
     }
 }
 

@@ -6,6 +6,7 @@ use Prim.Native.Nat.{ℕ}
 use mathlib.Core.List.{List}
 use lib.ListN.{length, replicate}
 use Rattle.stirling.specs.Count.{checkSize}
+use Rattle.stirling.proofs.Refusals.{unless-refuses}
 use Rattle.perm.specs.Checks.{checkPermutation}
 use Rattle.rank.specs.Ranking.{HasEntries}
 use Rattle.rank.specs.declared.Entries.{Entries}
@@ -18,9 +19,17 @@ abbrev blank : List ℕ
 blank = replicate 20 0
 
 -- a refusal of checks 1, 6 and 7 comes with zeros
-is-refused : (s : List ℕ) (r : ℕ) (t : Entries) → r ≡ checkPermutation s → (r ≡ 0 → ⊥) → t ≡ record { refusal = r; k = 0; array = blank } → HasEntries s t
+is-refused : (s : List ℕ) (r : ℕ) (t : Entries) → r ≡ checkPermutation s → (r ≡ 0 → ⊥) → t ≡ record { refusal = r; k = 0; fixed = 0; array = blank } → HasEntries s t
 is-refused s r t e h w =
-    rw w (record { refusal = e; array = λ z. absurd (h z); count = λ z. absurd (h z); zeros = λ _. (refl, refl) })
+    rw
+    w
+    (record {
+      refusal = e;
+      array = λ z. absurd (h z);
+      count = λ z. absurd (h z);
+      number = sym (unless-refuses r _ 0 h);
+      zeros = λ _. (refl, refl);
+    })
 
 check-size-requires : tie.Need-check-size-requires
 check-size-requires c κs = search needs
@@ -56,19 +65,19 @@ unread-requires-2 c κs = search needs
 returns-2 : tie.Need-returns-2
 returns-2 c =
     let t = c .before in
-    let w = t .before .before in
+    let w = t .before .before .before in
     let e = w .before .before in
     is-refused (given e) _ _ (array-refusal (given e) (passed e) blank refl (w .to-array .ensures)) (t .if2 .taken) (c .unread2 .ensures)
 
 array-share-prefix-array : tie.Need-array-share-prefix-array
 array-share-prefix-array c =
-    let w = c .before .before in
+    let w = c .before .before .before in
     let e = w .before .before in
     array-inside (given e) (passed e) blank refl (w .to-array .ensures) (c .if2 .left)
 
 slice-aggregate-fixed-entries : tie.Need-slice-aggregate-fixed-entries
 slice-aggregate-fixed-entries c =
-    let w = c .before .before .before in
+    let w = c .before .before .before .before in
     let e = w .before .before in
     sym (array-read (given e) (passed e) blank refl (w .to-array .ensures) (c .before .if2 .left) .array .size)
 
@@ -78,13 +87,14 @@ fixed-entries-requires c κs = search needs
 returns-3 : tie.Need-returns-3
 returns-3 c =
     let o = c .before .before in
-    let w = o .before .before in
+    let w = o .before .before .before in
     let e = w .before .before in
     let read = array-read (given e) (passed e) blank refl (w .to-array .ensures) (o .if2 .left) in
     record {
       refusal = array-refusal (given e) (passed e) blank refl (w .to-array .ensures);
       array = λ _. array-padded (w .to-array .ensures .written (o .if2 .left)) (few-values (given e) (passed e));
       count = λ _. fixed-cycles read (c .fixed-entries .ensures);
+      number = w .to-array .ensures .number;
       zeros = λ h. absurd (h (o .if2 .left));
     }
 

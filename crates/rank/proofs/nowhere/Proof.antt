@@ -4,7 +4,7 @@ use Rattle.rank.proofs.nowhere.Statement.{statement}
 use Rattle.rank.proofs.nowhere.Tie as tie
 
 returns : tie.Need-returns
-returns c = (refl, refl, refl)
+returns c = refl
 
 pub nowhere-spec : {M : Type 1} → statement M
 nowhere-spec = tie.close (tie.spec returns)

@@ -1,6 +1,7 @@
 -- `rank::rank` meets its contract: a refusal is that of the array's making, and otherwise the array's place is found. Assumes nothing.
 use borrow.Author.Needs.{needs}
 use mathlib.Core.Path.{refl, sym, _∙_}
+use Rattle.stirling.proofs.Refusals.{unless-refuses}
 use Rattle.rank.proofs.Stands.{entries-array, entries-inside, entries-rankable, stands}
 use Rattle.rank.proofs.rank.Statement.{statement}
 use Rattle.rank.proofs.rank.Tie as tie
@@ -15,8 +16,14 @@ returns : tie.Need-returns
 returns c =
     let t = c .before in
     let read = t .before .before .entries-of .ensures in
-    let w = c .nowhere .ensures in
-    record { refusal = w .0 ∙ read .refusal; answer = λ z. absurd (t .if1 .taken (sym (w .0) ∙ z)); zeros = λ _. (w .1, w .2) }
+    rw
+    (c .nowhere .ensures)
+    (record {
+      refusal = read .refusal;
+      answer = λ z. absurd (t .if1 .taken z);
+      number = sym (unless-refuses _ _ 0 (t .if1 .taken));
+      zeros = λ _. (refl, refl);
+    })
 
 table-requires : tie.Need-table-requires
 table-requires c κs = search needs
@@ -47,6 +54,7 @@ returns-2 c =
     record {
       refusal = sym (o .if1 .left) ∙ read .refusal;
       answer = λ _. stands read (o .if1 .left) (c .rank-forward .ensures .0);
+      number = rw (o .if1 .left) at (read .number);
       zeros = λ h. absurd (h refl);
     }
 
