@@ -2,8 +2,8 @@
 use mathlib.Core.Path.{_≡_, refl}
 use Prim.Native.Nat.{ℕ}
 use Rattle.stirling.specs.Count.{c}
-use Rattle.perm.specs.Lists.{range, same}
-use Rattle.perm.specs.Permutation.{extend, insert}
+use Rattle.perm.specs.Lists.{tally, range, same}
+use Rattle.perm.specs.Permutation.{fixed, extend, insert}
 use Rattle.perm.specs.Array.{position, arrayOf}
 use Rattle.gray.specs.Order.{S, relation, relationA, relationB, relationC, relationD, relationE, letter, joined, rows, reading, odd, rising, falling}
 use Rattle.cursor.specs.Machine.{forward, back, jump, show, observe, firstFrom, moved, turn, bare, answered}
@@ -30,7 +30,7 @@ pub record Table : Type 0 where
   pub show-0-0 : called zeros show ≡ record { cursor = zeros; answer = bare 0 }
 
 pub table : Table
-unfolding S relation relationA relationB relationC relationD relationE letter joined rows reading odd rising falling range insert extend c position firstFrom answered opened called sound observe turn same arrayOf
+unfolding S relation relationA relationB relationC relationD relationE letter joined rows reading odd rising falling range insert extend c position firstFrom answered opened called sound observe turn same arrayOf fixed tally
 table =
     record {
       step-4-2-1 = (refl, refl, refl);

@@ -5,7 +5,8 @@ use Prim.Native.Nat.{ℕ, suc, _^_, _<_}
 use borrow.Author.Tests.{not-true, not-false}
 use Rattle.stirling.specs.Count.{c, lookupOf}
 use Rattle.stirling.proofs.Counts.{cycles-passed, looked-up, fits}
-use Rattle.cursor.specs.Machine.{Call, show, observe, refusalOf, destination, moved, turn, bare, given, answered}
+use Rattle.perm.specs.Permutation.{fixed}
+use Rattle.cursor.specs.Machine.{Call, show, observe, rowOf, refusalOf, destination, moved, turn, bare, given, answered}
 use Rattle.cursor.specs.Walk.{machineOf, sound, called}
 use Rattle.cursor.specs.declared.Cursor.{Cursor}
 use Rattle.cursor.specs.declared.Answer.{Answer}
@@ -36,7 +37,7 @@ module _ (w : Cursor) (call : Call) where
   unfolding called turn answered
   called-moves e f = rw (e, f)
 
--- place, permutation and array as a record holds them, and zeros for the rest
+-- place, permutation and array as a record holds them, the number of fixed points of the permutation at its place, and zeros for the rest
 abbrev pub held : Cursor → Answer
 held w = record {
   refusal = 0;
@@ -46,6 +47,7 @@ held w = record {
   place = w .place;
   perm = w .perm;
   array = w .array;
+  fixed = fixed (rowOf (machineOf w));
 }
 
 -- show hands out what a sound record holds

@@ -8,9 +8,10 @@ use lib.Seq.{take-at, length-take-le}
 use borrow.Author.Tests.{eq-eqb}
 use Rattle.stirling.specs.Count.{checkSize, checkPlace}
 use Rattle.stirling.proofs.Counts.{size-passed, place-passed}
-use Rattle.perm.specs.Permutation.{IsPermutation}
+use Rattle.perm.specs.Permutation.{IsPermutation, fixed}
 use Rattle.perm.specs.Array.{arrayOf}
 use Rattle.perm.specs.Checks.{checkLent, ToArray}
+use Rattle.perm.specs.declared.Array.{Array}
 use Rattle.perm.proofs.Checked.{passes-values, passes-twice}
 use Rattle.perm.proofs.ArrayOf.{is-array-of}
 use Rattle.gray.specs.Order.{S}
@@ -59,12 +60,12 @@ row-padded {n} {k} {place} {r} {before} e z u =
     let zero : r ≡ 0 = rw (e, lent-passes before z) at (u .refusal) in
     rw (u .written zero) (front-padded (rowAt (S n k) place) (row-placed n k place e .size) (place-passed n k place e .0))
 
--- the array that is written to the front
-pub array-padded : {n r : ℕ} {s before after : List ℕ} → checkSize n ≡ 0 → IsPermutation n s → length before ≡ n → ToArray s before r after
-    → after ++ drop n (replicate 20 0) ≡ padded (arrayOf n s)
+-- the array that is written to the front, and what its making reports
+pub array-padded : {n : ℕ} {r : Array} {s before after : List ℕ} → checkSize n ≡ 0 → IsPermutation n s → length before ≡ n → ToArray s before r after
+    → (after ++ drop n (replicate 20 0) ≡ padded (arrayOf n s)) × (r .fixed ≡ fixed s)
 array-padded {n} {r} {s} {before} {after} e p z t =
     let y = p .size in
     let size : checkSize (length s) ≡ 0 = rw y e in
-    let zero : r ≡ 0 = rw (size, lent-passes {n = length s} before (omega arith), passes-values p, passes-twice p) at (t .refusal) in
+    let zero : r .refusal ≡ 0 = rw (size, lent-passes {n = length s} before (omega arith), passes-values p, passes-twice p) at (t .refusal) in
     let a = t .written zero in
-    rw (← is-array-of a p) (front-padded after (a .array .size ∙ p .size) (size-passed n e))
+    (rw (← is-array-of a p) (front-padded after (a .array .size ∙ p .size) (size-passed n e)), rw zero at (t .number))

@@ -7,7 +7,7 @@ use lib.Dec.{eqb, leb}
 use lib.ListN.{length, replicate}
 use Rattle.stirling.specs.Refusal.{refuse, unless}
 use Rattle.stirling.specs.Count.{c}
-use Rattle.perm.specs.Permutation.{at, rotate}
+use Rattle.perm.specs.Permutation.{at, fixed, rotate}
 use Rattle.perm.specs.Array.{position, arrayOf}
 use Rattle.gray.specs.Order.{Row, S}
 use Rattle.gray.specs.Listing.{rowAt, Positions}
@@ -101,6 +101,7 @@ bare r = record {
   place = 0;
   perm = replicate 20 0;
   array = replicate 20 0;
+  fixed = 0;
 }
 
 -- the three positions of a step from one row to the next
@@ -113,9 +114,10 @@ stepped old new = record {
   place = 0;
   perm = replicate 20 0;
   array = replicate 20 0;
+  fixed = 0;
 }
 
--- what show hands out: place, permutation, array
+-- what show hands out: place, permutation, array, and, as document 02, e), has it, the number of fixed points of that permutation
 abbrev pub shown : Machine → Answer
 shown m = record {
   refusal = 0;
@@ -125,6 +127,7 @@ shown m = record {
   place = m .place;
   perm = padded (rowOf m);
   array = padded (arrayOf (m .n) (rowOf m));
+  fixed = fixed (rowOf m);
 }
 
 -- the answer to a call that is not refused: three positions for forward and back, zeros for jump

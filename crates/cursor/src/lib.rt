@@ -1,11 +1,11 @@
 // A cursor that walks through S(n,k): a record handed over by value and handed back.
 ghost use mathlib.Core.Path.{_≡_};
-ghost use mathlib.Core.Bool.{true};
+ghost use mathlib.Core.Bool.{true, cond};
 ghost use Prim.Native.Nat.{_<_};
 ghost use lib.ListN.{length, getD, take};
 ghost use Rattle.stirling.specs.Count.{c, checkSize, checkPlace};
 ghost use Rattle.perm.specs.Lists.{same};
-ghost use Rattle.perm.specs.Permutation.{IsPermutation};
+ghost use Rattle.perm.specs.Permutation.{IsPermutation, fixed};
 ghost use Rattle.perm.specs.Array.{position, arrayOf};
 ghost use Rattle.gray.specs.Order.{S};
 ghost use Rattle.gray.specs.Listing.{rowAt, Near};
@@ -37,7 +37,8 @@ pub struct Cursor {
     pub array: [u8; 20],
 }
 
-// What a call answers beside the cursor: the refusal, the three positions of a step, and what show hands out; zeros where a call reports none.
+// What a call answers beside the cursor: the refusal, the three positions of a step, and what show hands out, with the permutation's number of fixed points; zeros
+// where a call reports none.
 pub struct Answer {
     pub refusal: u8,
     pub i: u64,
@@ -46,6 +47,7 @@ pub struct Answer {
     pub place: u64,
     pub perm: [u8; 20],
     pub array: [u8; 20],
+    pub fixed: u64,
 }
 
 // The cursor that a call hands back, with its answer.
@@ -53,6 +55,30 @@ pub struct Step {
     pub cursor: Cursor,
     pub answer: Answer,
 }
+
+// The array of a permutation, filled up with zeros, and the permutation's number of fixed points.
+struct Entries {
+    array: [u8; 20],
+    fixed: u64,
+}
+
+// A cursor, and the number of fixed points of its permutation, counted as the cursor was made.
+struct Counted {
+    cursor: Cursor,
+    fixed: u64,
+}
+
+// Whether a record passes check 8, and if it does the number of fixed points of its permutation, otherwise 0.
+struct Checked {
+    sound: bool,
+    fixed: u64,
+}
+
+// A record that fails check 8.
+const UNSOUND: Checked = Checked {
+    sound: false,
+    fixed: 0,
+};
 
 // An answer with a refusal, or 0 for none, and zeros for the rest.
 fn bare_answer(refusal: u8) -> Answer
@@ -66,6 +92,7 @@ fn bare_answer(refusal: u8) -> Answer
         place: 0,
         perm: [0u8; 20],
         array: [0u8; 20],
+        fixed: 0,
     }
 }
 
@@ -80,31 +107,46 @@ fn row_at(n: u64, k: u64, place: u64) -> [u8; 20]
     row
 }
 
-// The array of the permutation of n in the first bytes, filled up with zeros.
-fn array_of(n: u64, row: [u8; 20]) -> [u8; 20]
+// The array of the permutation of n in the first bytes, filled up with zeros, and the number of fixed points that its making reports.
+fn entries_of(n: u64, row: [u8; 20]) -> Entries
     requires { ⌜ (checkSize n ≡ 0) × IsPermutation n (take n row) ⌝ }
-    ensures { λ r. ⌜ r ≡ padded (arrayOf n (take n row)) ⌝ }
+    ensures { λ r. ⌜ r ≡ record { array = padded (arrayOf n (take n row)); fixed = fixed (take n row) } ⌝ }
 {
     let size = n as usize;
     let mut array = [0u8; 20];
-    perm::to_array(&row[..size], &mut array[..size]);
-    array
+    let made = perm::to_array(&row[..size], &mut array[..size]);
+    Entries {
+        array,
+        fixed: made.fixed,
+    }
 }
 
-// The record that shows the plain machine at a place of S(n,k).
+// The record that shows the plain machine at a place of S(n,k), and the number of fixed points of the permutation there.
+fn counted_at(n: u64, k: u64, place: u64) -> Counted
+    requires { ⌜ checkPlace n k place ≡ 0 ⌝ }
+    ensures { λ r. ⌜ r ≡ record { cursor = observe (moved (start n k) place); fixed = fixed (rowAt (S n k) place) } ⌝ }
+{
+    let perm = row_at(n, k, place);
+    let entries = entries_of(n, perm);
+    let array = entries.array;
+    Counted {
+        cursor: Cursor {
+            n,
+            k,
+            place,
+            perm,
+            array,
+        },
+        fixed: entries.fixed,
+    }
+}
+
+// The record alone.
 fn cursor_at(n: u64, k: u64, place: u64) -> Cursor
     requires { ⌜ checkPlace n k place ≡ 0 ⌝ }
     ensures { λ r. ⌜ r ≡ observe (moved (start n k) place) ⌝ }
 {
-    let perm = row_at(n, k, place);
-    let array = array_of(n, perm);
-    Cursor {
-        n,
-        k,
-        place,
-        perm,
-        array,
-    }
+    counted_at(n, k, place).cursor
 }
 
 // Whether two arrays have the same bytes.
@@ -121,22 +163,36 @@ fn equal(a: [u8; 20], b: [u8; 20]) -> bool
     true
 }
 
-// Whether a record passes check 8: permutation and array are recomputed at its place, and all their bytes compared.
-fn is_sound(w: Cursor) -> bool
-    ensures { λ r. ⌜ r ≡ sound w ⌝ }
+// Check 8: permutation and array are recomputed at the record's place, and all their bytes compared; the fixed points were counted on the way.
+fn check_record(w: Cursor) -> Checked
+    ensures { λ r. ⌜ r ≡ record { sound = sound w; fixed = cond (sound w) (fixed (rowOf (machineOf w))) 0 } ⌝ }
 {
     if stirling::check_place(w.n, w.k, w.place) != 0 {
-        return false;
+        return UNSOUND;
     }
-    let right = cursor_at(w.n, w.k, w.place);
+    let counted = counted_at(w.n, w.k, w.place);
+    let right = counted.cursor;
     let perm = w.perm;
     let right_perm = right.perm;
     if !equal(perm, right_perm) {
-        return false;
+        return UNSOUND;
     }
     let array = w.array;
     let right_array = right.array;
-    equal(array, right_array)
+    if !equal(array, right_array) {
+        return UNSOUND;
+    }
+    Checked {
+        sound: true,
+        fixed: counted.fixed,
+    }
+}
+
+// Whether a record passes check 8.
+fn is_sound(w: Cursor) -> bool
+    ensures { λ r. ⌜ r ≡ sound w ⌝ }
+{
+    check_record(w).sound
 }
 
 // The first position at which two rows of one length differ, or one past them.
@@ -184,6 +240,7 @@ fn step_between(old: &[u8], new: &[u8]) -> Answer
         place: 0,
         perm: [0u8; 20],
         array: [0u8; 20],
+        fixed: 0,
     }
 }
 
@@ -280,11 +337,12 @@ impl Cursor {
         Step { cursor, answer }
     }
 
-    // The place, the permutation and the array. Refusal 8.
+    // The place, the permutation and the array, and the number of fixed points. Refusal 8.
     pub fn show(self) -> Step
         ensures { λ r. ⌜ r ≡ called self show ⌝ }
     {
-        if !is_sound(self) {
+        let checked = check_record(self);
+        if !checked.sound {
             return refused(self, REFUSED_RECORD);
         }
         let perm = self.perm;
@@ -297,6 +355,7 @@ impl Cursor {
             place: self.place,
             perm,
             array,
+            fixed: checked.fixed,
         };
         Step {
             cursor: self,

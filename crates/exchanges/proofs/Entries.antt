@@ -9,6 +9,7 @@ use Rattle.stirling.proofs.Counts.{size-passes}
 use Rattle.perm.specs.Permutation.{IsPermutation}
 use Rattle.perm.specs.Array.{IsArrayOf}
 use Rattle.perm.specs.Checks.{ToArray, checkLent}
+use Rattle.perm.specs.declared.Array.{Array}
 use Rattle.perm.proofs.Refused.{lent-passes}
 use Rattle.perm.proofs.Checked.{passes-values, passes-twice}
 
@@ -21,9 +22,9 @@ pub front-lent : (n : ℕ) → n ≤ 20 → n ≡ length (take n blank)
 front-lent n h = sym (length-take-le n blank h)
 
 -- a permutation of n in the front of s
-module _ (n : ℕ) (s : List ℕ) (h : n ≤ 20) (p : IsPermutation n (take n s)) {r : ℕ} {after : List ℕ} (w : ToArray (take n s) (take n blank) r after) where
+module _ (n : ℕ) (s : List ℕ) (h : n ≤ 20) (p : IsPermutation n (take n s)) {r : Array} {after : List ℕ} (w : ToArray (take n s) (take n blank) r after) where
   -- is not refused
-  served : r ≡ 0
+  served : r .refusal ≡ 0
   served =
       let size : checkSize (length (take n s)) ≡ 0 = rw (p .size) (size-passes n h) in
       let lent : checkLent (length (take n s)) (length (take n blank)) ≡ 0 = sym (lent-passes _ _ (sym (front-lent n h) ∙ sym (p .size))) in

@@ -8,7 +8,7 @@ use lib.ListN.{length, take, drop}
 use lib.Seq.{take-at}
 use Rattle.stirling.specs.Refusal.{refuse}
 use Rattle.stirling.proofs.Refusals.{then-passed}
-use Rattle.perm.specs.Permutation.{IsPermutation}
+use Rattle.perm.specs.Permutation.{IsPermutation, fixed}
 use Rattle.perm.specs.Cycle.{cycles}
 use Rattle.perm.specs.Checks.{checkPermutation}
 use Rattle.gray.specs.Order.{Row}
@@ -49,9 +49,10 @@ module _ {s : List ℕ} {before after : List Level} {r : Explanation} (w : Expla
       rw (first-rows, w .answer .standing passed .count) (leads (length s) (cycles s) false s (record { permutation = permutation; count = refl })) in
       (here, λ t there. leads-one (length s) (r .k) false (take (length s) after) t s there here)
 
-  -- and the call for the place alone gives the same k and place
-  pub as-ranked : {q : Standing} → Ranked s q → q ≡ record { refusal = 0; k = r .k; place = r .place }
+  -- and the call for the place alone gives the same k and place, with the fixed points of the permutation
+  pub as-ranked : {q : Standing} → Ranked s q → q ≡ record { refusal = 0; k = r .k; place = r .place; fixed = fixed s }
   as-ranked {q} ranked =
       let none : q .refusal ≡ 0 = ranked .refusal ∙ checks in
       let same = one-standing (ranked .answer none) (w .answer .standing passed) in
-      λ i. record { refusal = none i; k = same .0 i; place = same .1 i }
+      let same-fixed : q .fixed ≡ fixed s = rw none at (ranked .number) in
+      λ i. record { refusal = none i; k = same .0 i; place = same .1 i; fixed = same-fixed i }

@@ -1,6 +1,5 @@
--- `Cursor::show` meets its contract: a sound record holds what the machine shows. Assumes nothing.
-use mathlib.Core.Path.{_≡_, sym, _∙_}
-use mathlib.Core.Bool.{true}
+-- `Cursor::show` meets its contract: a sound record holds what the machine shows, and its fixed points were counted as it was checked. Assumes nothing.
+use mathlib.Core.Path.{_≡_, sym, ap, _∙_}
 use borrow.Author.Needs.{needs}
 use Rattle.cursor.specs.Machine.{show}
 use Rattle.cursor.specs.Walk.{sound}
@@ -8,29 +7,34 @@ use Rattle.cursor.proofs.Outcomes.{fails, passes, called-unsound, calle
 use Rattle.cursor.proofs.Cursor.show.Statement.{statement}
 use Rattle.cursor.proofs.Cursor.show.Tie as tie
 
--- past the first test the record is sound
-passed : (c : tie.Else1) → sound (c .before .before .args .self) ≡ true
-passed c = passes (c .before .is-sound .ensures) (c .if1 .left)
+-- what check 8 says of the record
+verdict : (c : tie.After-check-record) → c .check-record .result .sound ≡ sound (c .before .args .self)
+verdict c = ap (λ r. r .sound) (c .check-record .ensures)
 
-is-sound-requires : tie.Need-is-sound-requires
-is-sound-requires c κs = search needs
+check-record-requires : tie.Need-check-record-requires
+check-record-requires c κs = search needs
 
 refused-requires : tie.Need-refused-requires
 refused-requires c κs = search needs
 
 returns : tie.Need-returns
 returns c =
-    let found = c .before .before in
-    c .refused .ensures ∙ sym (called-unsound (found .before .args .self) show (fails (found .is-sound .ensures) (c .before .if1 .taken)))
+    let found = c .before .before .before in
+    c .refused .ensures ∙ sym (called-unsound (found .before .args .self) show (fails (verdict found) (c .before .if1 .taken)))
 
 returns-2 : tie.Need-returns-2
-returns-2 c = sym (called-shows (c .before .before .before .before .args .self) (passed (c .before .before)))
+returns-2 c =
+    let tested = c .before .before in
+    let found = tested .before .before in
+    let w = found .before .args .self in
+    let passed = passes (verdict found) (tested .if1 .left) in
+    rw (found .check-record .ensures, passed) (sym (called-shows w passed))
 
 pub show-spec : {M : Type 1} → statement M
 show-spec =
     tie.close
     (tie.spec
-    is-sound-requires
+    check-record-requires
     refused-requires
     returns
     returns-2)

@@ -1,12 +1,12 @@
--- `cursor::array_of` meets its contract: what `to_array` writes to the front of 20 zeros is the array, filled up. Assumes nothing.
+-- `cursor::entries_of` meets its contract: what `to_array` writes to the front of 20 zeros is the array, filled up, and what it reports is handed on. Assumes nothing.
 use mathlib.Core.Path.{sym}
 use Prim.Native.Nat.{_≤_}
 use native.Mathlib.Omega.{arith}
 use borrow.Author.Needs.{needs}
 use Rattle.stirling.proofs.Counts.{size-passed}
 use Rattle.cursor.proofs.Padding.{length-front, array-padded}
-use Rattle.cursor.proofs.array_of.Statement.{statement}
-use Rattle.cursor.proofs.array_of.Tie as tie
+use Rattle.cursor.proofs.entries_of.Statement.{statement}
+use Rattle.cursor.proofs.entries_of.Tie as tie
 
 -- n is at most 20
 most : (c : tie.Start) → c .args .n ≤ 20
@@ -30,10 +30,11 @@ to-array-requires c κs = search needs
 returns : tie.Need-returns
 returns c =
     let start = c .before .before .before .before in
-    array-padded (start .pre .0) (start .pre .1) (length-front (most start)) (c .before .to-array .ensures)
+    let (array, fixed) = array-padded (start .pre .0) (start .pre .1) (length-front (most start)) (c .before .to-array .ensures) in
+    λ i. record { array = array i; fixed = fixed i }
 
-pub array-of-spec : {M : Type 1} → statement M
-array-of-spec =
+pub entries-of-spec : {M : Type 1} → statement M
+entries-of-spec =
     tie.close
     (tie.spec
     array-share-prefix-row
