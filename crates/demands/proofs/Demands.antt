@@ -1,21 +1,25 @@
--- The request's demands 2 and 3 as theorems, and what document 02, b), c) and d), add, to be read from top to bottom beside them. Each is a law of a crate below, stated
+-- The request's demands 2 and 3 as theorems, and what document 02, b) to e), adds, to be read from top to bottom beside them. Each is a law of a crate below, stated
 -- in full here so that nothing has to be looked up but the definitions in specs/. What demand 1 asks is met by the proofs of the functions themselves
 -- (docs/DEMANDS.md says how). Assumes nothing.
-use mathlib.Core.Path.{_≡_, _∙_, sym}
+use mathlib.Core.Path.{_≡_, _∙_, sym, ap}
+use mathlib.Core.Logic.{_⊎_}
 use Prim.Native.Nat.{ℕ, suc, _+_, _-_, _*_, _≤_, _<_, _^_}
 use mathlib.Core.Bool.{Bool, false}
 use mathlib.Core.List.{List, _∷_, _++_}
 use lib.Dec.{eqb}
 use lib.ListN.{length, getD, take}
+use Rattle.stirling.specs.Refusal.{unless}
 use Rattle.stirling.specs.Count.{c, countOf, checkCycles, checkPlace}
 use Rattle.stirling.proofs.Counts.{cycles-passes, cycles-passed, fits}
 use Rattle.perm.specs.Lists.{tally, positions}
-use Rattle.perm.specs.Permutation.{IsPermutation, at, distance}
+use Rattle.perm.specs.Permutation.{IsPermutation, at, fixed, distance}
 use Rattle.perm.specs.Cycle.{cycles}
 use Rattle.perm.specs.Array.{IsArray, IsArrayOf, product, position}
-use Rattle.perm.specs.Checks.{checkPermutation}
+use Rattle.perm.specs.declared.Array.{Array}
+use Rattle.perm.specs.Checks.{checkToArray, checkPermutation, ToArray}
 use Rattle.perm.proofs.Arrays.{product-permutation, has-array, one-array, cycles-product}
 use Rattle.perm.proofs.Apart as Apart
+use Rattle.perm.proofs.Cases as Fixed
 use Rattle.gray.specs.declared.Block.the-variants.{Extend as E}
 use Rattle.gray.specs.Order.{Row, S, letter}
 use Rattle.gray.specs.Blocks.{blocks}
@@ -47,11 +51,13 @@ use Rattle.exchanges.specs.Between.{Exchanged}
 use Rattle.exchanges.proofs.Carrying.{carries, one-carries}
 use Rattle.exchanges.proofs.Answered.{literal, turns, number, least, none}
 use Rattle.exchanges.proofs.Cases as Pairs
-use Rattle.cursor.specs.Machine.{Machine, Call, Steps, rowOf, refusalOf, turn, answered, IsStep}
-use Rattle.cursor.specs.Walk.{walkRun, plainRun}
+use Rattle.cursor.specs.declared.Cursor.{Cursor}
+use Rattle.cursor.specs.Machine.{Machine, Call, show, Steps, rowOf, refusalOf, turn, answered, IsStep}
+use Rattle.cursor.specs.Walk.{called, walkRun, plainRun}
 use Rattle.cursor.proofs.Calls as Calls
 use Rattle.cursor.proofs.Calls.{placed}
 use Rattle.cursor.proofs.Steps as Steps
+use Rattle.cursor.proofs.Reported.{shown-number, no-number}
 use Rattle.cursor.proofs.Cases as Walks
 
 -- ---- Demand 2: the counts, the lists, the places and the transposition arrays equal those of relations (a) to (e), from place to permutation and back
@@ -64,11 +70,11 @@ counts n k e = (rw e, fits n k (cycles-passed n k e .0), Once.length-S n k)
 pub served : (n k : ℕ) → n ≤ 20 → 0 < c n k → checkCycles n k ≡ 0
 served n k = cycles-passes n k 0
 
--- from place to permutation and back: a permutation written for a place of S(n,k) is ranked k and that place
+-- from place to permutation and back: a permutation written for a place of S(n,k) is ranked k and that place, with its number of fixed points
 pub place-to-place : {n k place : ℕ} {before after : List ℕ} → Unranked n k place before 0 after
     → (r : Standing)
     → Ranked after r
-    → r ≡ record { refusal = 0; k = k; place = place }
+    → r ≡ record { refusal = 0; k = k; place = place; fixed = fixed after }
 place-to-place = place-back
 
 -- from permutation to place and back: what is written for the place of a permutation is that permutation, and it is not refused
@@ -95,7 +101,8 @@ fixed-entries = cycles-product
 -- ---- Demand 3, first half: every list of calls
 
 -- for every open that is not refused and every list of calls after it, each call getting the record that the one before handed back: after the open and
--- after each call, the record and the answer (refusal, three positions, what show hands out) are the plain machine's. One claim about the whole list
+-- after each call, the record and the answer (refusal, three positions, what show hands out, the number of fixed points with it) are the plain machine's. One
+-- claim about the whole list
 pub calls : (n k : ℕ) → checkCycles n k ≡ 0 → (cs : List Call) → walkRun n k cs ≡ plainRun n k cs
 calls = Calls.calls
 
@@ -149,11 +156,11 @@ followed = lead
 pub lead-to-one : (n k : ℕ) (rows : List Level) (t u : Row) → Leads n k false rows t → Leads n k false rows u → t ≡ u
 lead-to-one n k = leads-one n k false
 
--- k and the place are those that the call for the place gives
+-- k and the place are those that the call for the place gives, which has the number of fixed points beside them
 pub same-as-rank : {s : List ℕ} {before after : List Level} {r : Explanation} → Explains s before r after → r .refusal ≡ 0
     → {q : Standing}
     → Ranked s q
-    → q ≡ record { refusal = 0; k = r .k; place = r .place }
+    → q ≡ record { refusal = 0; k = r .k; place = r .place; fixed = fixed s }
 same-as-rank = as-ranked
 
 -- (b), and (a) at 1 and 2, give block 0 and 0 before, and the reading passes down unchanged
@@ -236,3 +243,22 @@ start-of-block = starts-at
 -- n×(n−1)÷2 in all are enough
 pub additions-enough : (n k : ℕ) (backward : Bool) (s : Row) → HasCycles n k s → 2 * passed n k backward s ≤ n * (n - 1)
 additions-enough = enough
+
+-- ---- Document 02, e): how many values stand at their own position, `fixed`: the number of i with s(i) = i, and not of those with pi = i
+
+-- of whatever permutation to array and the call for the place answer for one permutation: both report its number of fixed points, and on a refusal 0
+pub fixed-points : {s before after : List ℕ} {r : Array} {q : Standing} → ToArray s before r after → Ranked s q
+    → (r .fixed ≡ unless (checkToArray s (length before)) (fixed s) 0) × (q .fixed ≡ unless (checkPermutation s) (fixed s) 0)
+fixed-points {s} a b = (a .number ∙ ap (λ refusal. unless refusal (fixed s) 0) (a .refusal), b .number ∙ ap (λ refusal. unless refusal (fixed s) 0) (b .refusal))
+
+-- whatever record is handed in, a show that is not refused reports it of the permutation that it hands out
+pub fixed-shown : (w : Cursor) → called w show .answer .refusal ≡ 0 → called w show .answer .fixed ≡ fixed (take (w .n) (called w show .answer .perm))
+fixed-shown = shown-number
+
+-- and every other call, and every call that is refused, reports 0
+pub fixed-silent : (w : Cursor) (call : Call) → (call ≡ show → ⊥) ⊎ (called w call .answer .refusal ≡ 0 → ⊥) → called w call .answer .fixed ≡ 0
+fixed-silent = no-number
+
+-- examples: fixed points and fixed entries of the array are two numbers
+pub fixed-cases : Fixed.Table
+fixed-cases = Fixed.table

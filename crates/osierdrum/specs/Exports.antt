@@ -11,4 +11,4 @@ counted n k = record { refusal = countOf n k .refusal; count = countOf n k .coun
 
 -- an exported place, as the crate `rank` has it
 abbrev pub standing : Rank → Standing
-standing r = record { refusal = r .refusal; k = r .k; place = r .place }
+standing r = record { refusal = r .refusal; k = r .k; place = r .place; fixed = r .fixed }

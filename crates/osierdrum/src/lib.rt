@@ -2,6 +2,7 @@
 use exchanges::Exchanges;
 use explain::Explanation;
 use explain::Level;
+use perm::Array;
 ghost use mathlib.Core.Path.{_≡_};
 ghost use Rattle.perm.specs.Checks.{ToArray, FromArray};
 ghost use Rattle.rank.specs.Place.{Unranked, Ranked, RowsWritten};
@@ -16,12 +17,13 @@ pub struct Count {
     pub count: u64,
 }
 
-// A permutation's number of cycles and its place, or a refusal with zeros.
+// A permutation's number of cycles, its place and its number of fixed points, or a refusal with zeros.
 #[repr(C)]
 pub struct Rank {
     pub refusal: u8,
     pub k: u64,
     pub place: u64,
+    pub fixed: u64,
 }
 
 // c(n,k). Refusals 1, 2.
@@ -44,7 +46,7 @@ pub extern "C" fn osierdrum_unrank(n: u64, k: u64, place: u64, out: &mut [u8]) -
     rank::unrank(n, k, place, out)
 }
 
-// The number of cycles of a permutation and its place. Refusals 1, 6, 7.
+// The number of cycles of a permutation, its place and its number of fixed points. Refusals 1, 6, 7.
 #[no_mangle]
 pub extern "C" fn osierdrum_rank(s: &[u8]) -> Rank
     ensures { λ r. ⌜ Ranked (now (s .entry)) (standing r) ⌝ }
@@ -54,12 +56,13 @@ pub extern "C" fn osierdrum_rank(s: &[u8]) -> Rank
         refusal: answer.refusal,
         k: answer.k,
         place: answer.place,
+        fixed: answer.fixed,
     }
 }
 
-// The transposition array of a permutation. Refusals 1, 5, 6, 7.
+// The transposition array of a permutation, and the permutation's number of fixed points. Refusals 1, 5, 6, 7.
 #[no_mangle]
-pub extern "C" fn osierdrum_to_array(s: &[u8], out: &mut [u8]) -> u8
+pub extern "C" fn osierdrum_to_array(s: &[u8], out: &mut [u8]) -> Array
     ensures { λ r. ⌜ ToArray (now (s .entry)) (now (out .entry)) r (now (out .exit)) ⌝ }
 {
     perm::to_array(s, out)

@@ -13,3 +13,4 @@ pub mod Checked
 pub mod Refused
 pub mod Search
 pub mod Steps
+pub mod Cases

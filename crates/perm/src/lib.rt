@@ -180,23 +180,27 @@ fn write_product(a: &[u8], out: &mut [u8])
     }
 }
 
+// A refusal, with no number.
+fn no_array(refusal: u8) -> Array
+    ensures { λ r. ⌜ r ≡ record { refusal = refusal; fixed = 0 } ⌝ }
+{
+    Array {
+        refusal,
+        fixed: 0,
+    }
+}
+
 // The array of the permutation s, written to `out`, and the number of fixed points of s. Refusals 1, 5, 6, 7 in document 01's order; a refused call writes nothing.
 pub fn to_array(s: &[u8], out: &mut [u8]) -> Array
     ensures { λ r. ⌜ ToArray (now (s .entry)) (now (out .entry)) r (now (out .exit)) ⌝ }
 {
     let lengths = check_lengths(s.len(), out.len());
     if lengths != 0 {
-        return Array {
-            refusal: lengths,
-            fixed: 0,
-        };
+        return no_array(lengths);
     }
     let contents = check_contents(s);
     if contents != 0 {
-        return Array {
-            refusal: contents,
-            fixed: 0,
-        };
+        return no_array(contents);
     }
     Array {
         refusal: 0,

@@ -7,6 +7,7 @@ use Rattle.cursor.specs.Machine.{Machine, rowOf, moved}
 use Rattle.cursor.specs.Walk.{machineOf}
 use Rattle.cursor.proofs.Calls.{OnPlace, on-moved, on-passes}
 use Rattle.cursor.proofs.Sound.{sound-on, sound-shows}
+use Rattle.cursor.proofs.Reported.{sound-row}
 use Rattle.cursor.proofs.Steps.{row-permutation}
 use Rattle.cursor.proofs.Padding.{length-shown, take-shown}
 use Rattle.cursor.proofs.step_to.Statement.{statement}
@@ -27,7 +28,7 @@ after-on c = on-moved (before-of c) (before-on c) (c .args .place) (c .pre .1)
 
 -- the old row and the new one, as they are lent
 old-row : (c : tie.Start) → take (c .args .w .n) (c .args .w .perm) ≡ rowOf (before-of c)
-old-row c = ap (λ w. take (c .args .w .n) (w .perm)) (sound-shows (c .args .w) (c .pre .0)) ∙ take-shown (before-of c) (before-on c)
+old-row c = sound-row (c .args .w) (c .pre .0)
 
 new-row : (c : tie.After-cursor-at) → take (c .before .args .w .n) (c .cursor-at .result .perm) ≡ rowOf (after-of (c .before))
 new-row c = ap (λ w. take (c .before .args .w .n) (w .perm)) (c .cursor-at .ensures) ∙ take-shown (after-of (c .before)) (after-on (c .before))
