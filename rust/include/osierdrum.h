@@ -21,7 +21,8 @@ extern "C" {
 #endif
 
 struct osierdrum_Count { uint8_t refusal; uint64_t count; };
-struct osierdrum_Rank { uint8_t refusal; uint64_t k; uint64_t place; };
+struct osierdrum_Rank { uint8_t refusal; uint64_t k; uint64_t place; uint64_t fixed; };
+struct osierdrum_Array { uint8_t refusal; uint64_t fixed; };
 struct osierdrum_Explanation { uint8_t refusal; uint64_t k; uint64_t place; };
 struct osierdrum_Exchanges { uint8_t refusal; uint64_t count; uint64_t written; };
 
@@ -37,11 +38,13 @@ struct osierdrum_Count osierdrum_count(uint64_t n, uint64_t k);
 /* The permutation at a place of S(n,k), to n bytes. Refusals 1, 2, 3, 5. */
 uint8_t osierdrum_unrank(uint64_t n, uint64_t k, uint64_t place, uint8_t *out, size_t out_len);
 
-/* The number of cycles of a permutation and its place. Refusals 1, 6, 7. */
+/* The number of cycles of a permutation, its place, and in fixed the number of values that stand at their own position.
+ * Refusals 1, 6, 7. */
 struct osierdrum_Rank osierdrum_rank(const uint8_t *s, size_t s_len);
 
-/* The transposition array of a permutation. Refusals 1, 5, 6, 7. The two slices do not overlap. */
-uint8_t osierdrum_to_array(const uint8_t *s, size_t s_len, uint8_t *out, size_t out_len);
+/* The transposition array of a permutation, and in fixed the number of the permutation's values (not of the array's
+ * entries) that stand at their own position. Refusals 1, 5, 6, 7. The two slices do not overlap. */
+struct osierdrum_Array osierdrum_to_array(const uint8_t *s, size_t s_len, uint8_t *out, size_t out_len);
 
 /* The permutation of a transposition array. Refusals 1, 5, 6. The two slices do not overlap. */
 uint8_t osierdrum_from_array(const uint8_t *a, size_t a_len, uint8_t *out, size_t out_len);

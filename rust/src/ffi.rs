@@ -14,6 +14,13 @@ pub struct Rank {
     pub refusal: u8,
     pub k: u64,
     pub place: u64,
+    pub fixed: u64,
+}
+
+#[repr(C)]
+pub struct Array {
+    pub refusal: u8,
+    pub fixed: u64,
 }
 
 #[repr(C)]
@@ -34,7 +41,7 @@ extern "C" {
     pub fn osierdrum_count(n: u64, k: u64) -> Count;
     pub fn osierdrum_unrank(n: u64, k: u64, place: u64, out: *mut u8, out_len: usize) -> u8;
     pub fn osierdrum_rank(s: *const u8, s_len: usize) -> Rank;
-    pub fn osierdrum_to_array(s: *const u8, s_len: usize, out: *mut u8, out_len: usize) -> u8;
+    pub fn osierdrum_to_array(s: *const u8, s_len: usize, out: *mut u8, out_len: usize) -> Array;
     pub fn osierdrum_from_array(a: *const u8, a_len: usize, out: *mut u8, out_len: usize) -> u8;
     pub fn osierdrum_rows(n: u64, k: u64, place: u64, m: u64, o: u64, buf: *mut u8, buf_len: usize) -> u8;
     pub fn osierdrum_explain(s: *const u8, s_len: usize, levels: *mut Level, levels_len: usize) -> Explanation;

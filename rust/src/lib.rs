@@ -16,7 +16,7 @@
 //! let mut row = [0; 4];
 //! osierdrum::unrank(4, 2, rows - 1, &mut row)?;
 //! assert_eq!(row, [3, 4, 1, 2]);
-//! assert_eq!(osierdrum::rank(&row)?, osierdrum::Rank { k: 2, place: 10 });
+//! assert_eq!(osierdrum::rank(&row)?, osierdrum::Rank { k: 2, place: 10, fixed: 0 });
 //! # Ok::<(), osierdrum::Refusal>(())
 //! ```
 
@@ -91,11 +91,12 @@ impl fmt::Display for Refusal {
 
 impl Error for Refusal {}
 
-/// Where a permutation stands: in S(n,k), n its length, at a place.
+/// Where a permutation stands: in S(n,k), n its length, at a place; and how many of its values stand at their own
+/// position.
 ///
 /// ```
 /// let stands = osierdrum::rank(&[3, 1, 4, 2, 5])?;
-/// assert_eq!((stands.k, stands.place), (2, 38));
+/// assert_eq!((stands.k, stands.place, stands.fixed), (2, 38, 1));
 /// # Ok::<(), osierdrum::Refusal>(())
 /// ```
 #[derive(Clone, Copy, Debug, PartialEq, Eq, Hash)]
@@ -104,6 +105,8 @@ pub struct Rank {
     pub k: u64,
     /// Its place in S(n,k), from 0.
     pub place: u64,
+    /// Its number of fixed points: the i with s(i) = i.
+    pub fixed: u64,
 }
 
 /// One size's part of an explanation: where the block that holds the permutation stands in the list at that size.
@@ -152,6 +155,22 @@ pub struct Explanation {
     pub levels: Vec<Level>,
 }
 
+/// What [`explain_into`] answers beside the levels that it writes.
+///
+/// ```
+/// let mut levels = [osierdrum::Level::default(); 20]; // room for every size
+/// let why = osierdrum::explain_into(&[3, 1, 4, 2, 5], &mut levels)?;
+/// assert_eq!((why.k, why.place), (2, 38));
+/// # Ok::<(), osierdrum::Refusal>(())
+/// ```
+#[derive(Clone, Copy, Debug, PartialEq, Eq, Hash)]
+pub struct Explained {
+    /// The permutation's number of cycles.
+    pub k: u64,
+    /// Its place in S(n,k), from 0; the levels' numbers before add up to it.
+    pub place: u64,
+}
+
 /// How many pairs [`exchanges_into`] found, and the bytes that they take.
 ///
 /// ```
@@ -197,37 +216,38 @@ pub fn unrank(n: u64, k: u64, place: u64, out: &mut [u8]) -> Result<(), Refusal>
     Refusal::checked(unsafe { ffi::osierdrum_unrank(n, k, place, out.as_mut_ptr(), out.len()) })
 }
 
-/// The number of cycles of a permutation and its place; n is the slice's length. An empty slice is the permutation of
-/// nothing: no cycle, place 0.
+/// The number of cycles of a permutation, its place and its number of fixed points; n is the slice's length. An empty
+/// slice is the permutation of nothing: no cycle, place 0, no fixed point.
 ///
 /// Refusals, in this order: [`Refusal::Size`], [`Refusal::Value`], [`Refusal::Twice`].
 ///
 /// ```
 /// use osierdrum::{rank, Rank, Refusal};
-/// assert_eq!(rank(&[4, 2, 1, 3]), Ok(Rank { k: 2, place: 0 }));
-/// assert_eq!(rank(&[]), Ok(Rank { k: 0, place: 0 }));
+/// assert_eq!(rank(&[4, 2, 1, 3]), Ok(Rank { k: 2, place: 0, fixed: 1 }));
+/// assert_eq!(rank(&[]), Ok(Rank { k: 0, place: 0, fixed: 0 }));
 /// assert_eq!(rank(&[1, 1]), Err(Refusal::Twice));
 /// ```
 pub fn rank(s: &[u8]) -> Result<Rank, Refusal> {
     // SAFETY: the pointer and the length are those of one slice.
     let answer = unsafe { ffi::osierdrum_rank(s.as_ptr(), s.len()) };
-    Refusal::checked(answer.refusal).map(|()| Rank { k: answer.k, place: answer.place })
+    Refusal::checked(answer.refusal).map(|()| Rank { k: answer.k, place: answer.place, fixed: answer.fixed })
 }
 
 /// Writes the transposition array of the permutation `s` to `out`, which is as long: the one p with 1 ≤ p(i) ≤ i and
-/// s = ⟨p(1),1⟩·⟨p(2),2⟩·…·⟨p(n),n⟩.
+/// s = ⟨p(1),1⟩·⟨p(2),2⟩·…·⟨p(n),n⟩. The result is the number of fixed points of `s`, the i with s(i) = i; the i with
+/// p(i) = i are another number, that of the cycles.
 ///
 /// Refusals, in this order: [`Refusal::Size`], [`Refusal::Lent`], [`Refusal::Value`], [`Refusal::Twice`].
 ///
 /// ```
 /// let mut array = [0; 4];
-/// osierdrum::to_array(&[4, 2, 1, 3], &mut array)?;
+/// assert_eq!(osierdrum::to_array(&[4, 2, 1, 3], &mut array), Ok(1)); // 2 stands at position 2
 /// assert_eq!(array, [1, 2, 1, 1]);
-/// # Ok::<(), osierdrum::Refusal>(())
 /// ```
-pub fn to_array(s: &[u8], out: &mut [u8]) -> Result<(), Refusal> {
+pub fn to_array(s: &[u8], out: &mut [u8]) -> Result<u64, Refusal> {
     // SAFETY: each pointer and length are those of one slice, and the written one is ours alone.
-    Refusal::checked(unsafe { ffi::osierdrum_to_array(s.as_ptr(), s.len(), out.as_mut_ptr(), out.len()) })
+    let answer = unsafe { ffi::osierdrum_to_array(s.as_ptr(), s.len(), out.as_mut_ptr(), out.len()) };
+    Refusal::checked(answer.refusal).map(|()| answer.fixed)
 }
 
 /// Writes the permutation of the transposition array `a` to `out`, which is as long.
@@ -278,7 +298,7 @@ pub fn rows(n: u64, k: u64, place: u64, m: u64, offset: u64, buf: &mut [u8]) -> 
 pub fn explain(s: &[u8]) -> Result<Explanation, Refusal> {
     // a longer slice is refused before its levels are counted
     let mut levels = vec![Level::default(); s.len().min(20)];
-    explain_into(s, &mut levels).map(|Rank { k, place }| Explanation { k, place, levels })
+    explain_into(s, &mut levels).map(|Explained { k, place }| Explanation { k, place, levels })
 }
 
 /// As [`explain`], with the levels written to the first n of `levels`; those after them stay.
@@ -286,18 +306,18 @@ pub fn explain(s: &[u8]) -> Result<Explanation, Refusal> {
 /// Refusals, in this order: [`Refusal::Size`], [`Refusal::Value`], [`Refusal::Twice`], [`Refusal::Levels`].
 ///
 /// ```
-/// use osierdrum::{explain_into, Level, Rank, Refusal};
+/// use osierdrum::{explain_into, Explained, Level, Refusal};
 /// let mut levels = [Level::default(); 20]; // room for every size
-/// assert_eq!(explain_into(&[2, 3, 1], &mut levels), Ok(Rank { k: 1, place: 1 }));
+/// assert_eq!(explain_into(&[2, 3, 1], &mut levels), Ok(Explained { k: 1, place: 1 }));
 /// assert_eq!(levels[0], Level { letter: b'a', backward: false, block: 1, before: 1 });
 /// assert_eq!(levels[3], Level::default()); // as it was
 /// assert_eq!(explain_into(&[2, 3, 1], &mut levels[..2]), Err(Refusal::Levels));
 /// ```
-pub fn explain_into(s: &[u8], levels: &mut [Level]) -> Result<Rank, Refusal> {
+pub fn explain_into(s: &[u8], levels: &mut [Level]) -> Result<Explained, Refusal> {
     // SAFETY: each pointer and length are those of one slice, the written one is ours alone, and a level has the library's
     // layout.
     let answer = unsafe { ffi::osierdrum_explain(s.as_ptr(), s.len(), levels.as_mut_ptr(), levels.len()) };
-    Refusal::checked(answer.refusal).map(|()| Rank { k: answer.k, place: answer.place })
+    Refusal::checked(answer.refusal).map(|()| Explained { k: answer.k, place: answer.place })
 }
 
 /// The exchanges that turn the permutation `from` into the permutation `to`: pairs of positions whose values are

@@ -5,6 +5,7 @@ mod reference;
 
 use osierdrum::{count, from_array, rank, rows, to_array, unrank, Refusal};
 use reference::{damaged, short_slices, Random, Reference};
+use std::fmt::Debug;
 
 /// Numbers at and beside every bound of document 01, and at the ends of the machine's words.
 const NUMBERS: [u64; 22] = [
@@ -32,27 +33,28 @@ const NUMBERS: [u64; 22] = [
     u64::MAX,
 ];
 
-fn number(result: Result<(), Refusal>) -> u8 {
-    result.map_or_else(|refusal| refusal as u8, |()| 0)
-}
-
-/// Runs a call on a part of a larger buffer, and the reference on a copy: same refusal, same bytes, guards included.
-fn same(
+/// Runs a call on a part of a larger buffer, and the reference on a copy: same result, same bytes, guards included. Gives the refusal.
+fn same<T: PartialEq + Debug>(
     size: usize,
-    call: impl Fn(&mut [u8]) -> Result<(), Refusal>,
-    expected: impl Fn(&mut [u8]) -> Result<(), u8>,
+    call: impl Fn(&mut [u8]) -> Result<T, Refusal>,
+    expected: impl Fn(&mut [u8]) -> Result<T, u8>,
 ) -> u8 {
     const GUARD: usize = 32;
     let before: Vec<u8> = (0..size + 2 * GUARD).map(|i| (i * 37 + 11) as u8).collect();
     let (mut ours, mut theirs) = (before.clone(), before.clone());
-    let given = number(call(&mut ours[GUARD..GUARD + size]));
-    let right = expected(&mut theirs[GUARD..GUARD + size]).err().unwrap_or(0);
+    let given = call(&mut ours[GUARD..GUARD + size]).map_err(|refusal| refusal as u8);
+    let right = expected(&mut theirs[GUARD..GUARD + size]);
     assert_eq!(given, right);
     assert_eq!(ours, theirs);
-    if given != 0 {
+    if given.is_err() {
         assert_eq!(ours, before);
     }
-    given
+    given.err().unwrap_or(0)
+}
+
+/// The place of a permutation, as the reference has it.
+fn ranked(s: &[u8]) -> Result<(u64, u64, u64), u8> {
+    rank(s).map(|stands| (stands.k, stands.place, stands.fixed)).map_err(|refusal| refusal as u8)
 }
 
 #[test]
@@ -120,7 +122,7 @@ fn slices_in_rank_and_arrays() {
         let n = random.below(24) as usize;
         let s = damaged(&mut random, n);
         let size = if random.below(4) == 0 { random.below(24) as usize } else { n };
-        let given = rank(&s).map(|stands| (stands.k, stands.place)).map_err(|refusal| refusal as u8);
+        let given = ranked(&s);
         assert_eq!(given, reference.rank(&s), "{s:?}");
         met[0][usize::from(given.err().unwrap_or(0))] += 1;
         met[1][usize::from(same(size, |out| to_array(&s, out), |out| reference.to_array(&s, out)))] += 1;
@@ -135,7 +137,7 @@ fn slices_in_rank_and_arrays() {
 fn every_short_slice() {
     let reference = Reference::new();
     for s in short_slices() {
-        assert_eq!(rank(&s).map(|r| (r.k, r.place)).map_err(|refusal| refusal as u8), reference.rank(&s));
+        assert_eq!(ranked(&s), reference.rank(&s));
         same(s.len(), |out| to_array(&s, out), |out| reference.to_array(&s, out));
         same(s.len(), |out| from_array(&s, out), |out| reference.from_array(&s, out));
     }

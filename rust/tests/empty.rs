@@ -2,7 +2,7 @@
 //! reference; the other tests compare n = 0 with the reference among the rest.
 
 use osierdrum::{
-    count, exchanges, exchanges_into, explain, explain_into, from_array, rank, rows, to_array, unrank, Exchanges,
+    count, exchanges, exchanges_into, explain, explain_into, from_array, rank, rows, to_array, unrank, Exchanges, Explained,
     Explanation, Level, Rank, Refusal,
 };
 
@@ -40,8 +40,8 @@ fn permutation_at_a_place() {
 
 #[test]
 fn place_of_a_permutation() {
-    assert_eq!(rank(&[]), Ok(Rank { k: 0, place: 0 }));
-    assert_eq!(rank(&[1]), Ok(Rank { k: 1, place: 0 }));
+    assert_eq!(rank(&[]), Ok(Rank { k: 0, place: 0, fixed: 0 }));
+    assert_eq!(rank(&[1]), Ok(Rank { k: 1, place: 0, fixed: 1 }));
     assert_eq!(rank(&[0]), Err(Refusal::Value));
     assert_eq!(rank(&[0; 21]), Err(Refusal::Size));
 }
@@ -54,7 +54,7 @@ fn explanation_of_a_place() {
     let lent = Level { letter: b'x', backward: true, block: 7, before: 7 };
     let mut levels = [lent; 3];
     for size in [0, 1] {
-        assert_eq!(explain_into(&[], &mut levels[1..1 + size]), Ok(Rank { k: 0, place: 0 }));
+        assert_eq!(explain_into(&[], &mut levels[1..1 + size]), Ok(Explained { k: 0, place: 0 }));
         assert_eq!(explain_into(&[0], &mut levels[1..1 + size]), Err(Refusal::Value));
     }
     assert_eq!(explain_into(&[1], &mut levels[1..1]), Err(Refusal::Levels));
@@ -62,8 +62,15 @@ fn explanation_of_a_place() {
 }
 
 #[test]
+fn fixed_points_of_an_array() {
+    assert_eq!(lent(0, |out| to_array(&[], out)), Ok(0));
+    assert_eq!(to_array(&[1], &mut [7]), Ok(1));
+}
+
+#[test]
 fn arrays() {
-    for call in [to_array, from_array] {
+    let unnumbered = |s: &[u8], out: &mut [u8]| to_array(s, out).map(|_| ());
+    for call in [unnumbered, from_array] {
         assert_eq!(lent(0, |out| call(&[], out)), Ok(()));
         assert_eq!(lent(1, |out| call(&[], out)), Err(Refusal::Lent));
         assert_eq!(lent(0, |out| call(&[1], out)), Err(Refusal::Lent));

@@ -126,7 +126,7 @@ fn random_pairs_up_to_twenty() {
         for k in (n.min(1)..=n).flat_map(|k| [k; 100]) {
             let [from, u, to] = carried(&reference, &mut random, n, k);
             let mut array = vec![0; u.len()];
-            assert_eq!(reference.to_array(&u, &mut array), Ok(()));
+            assert_eq!(reference.to_array(&u, &mut array), Ok(Reference::fixed(&u)));
             let right: Vec<[u8; 2]> = array.into_iter().zip(1..).map(<[u8; 2]>::from).filter(|[p, i]| p != i).collect();
             assert_eq!(right.len() as u64, n - k);
             assert_eq!(exchanges(&from, &to).as_ref(), Ok(&right), "{from:?} to {to:?}");

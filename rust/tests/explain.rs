@@ -45,7 +45,7 @@ fn row(reference: &Reference, n: u64, k: u64, place: u64) -> Vec<u8> {
 fn holds(s: &[u8], why: &Explanation) {
     let Explanation { k, place, levels } = why;
     assert_eq!(levels.len(), s.len());
-    assert_eq!(rank(s), Ok(Rank { k: *k, place: *place }), "{s:?}");
+    assert_eq!(rank(s), Ok(Rank { k: *k, place: *place, fixed: Reference::fixed(s) }), "{s:?}");
     assert_eq!(levels.iter().map(|level| level.before).sum::<u64>(), *place, "{s:?}");
     assert_eq!(followed(s.len(), *k as usize, levels), s, "{levels:?}");
 }

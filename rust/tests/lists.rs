@@ -11,9 +11,10 @@ fn agrees(n: u64, k: u64, place: u64, row: &[u8]) {
     let mut out = [0; 20];
     assert_eq!(unrank(n, k, place, &mut out[..size]), Ok(()));
     assert_eq!(&out[..size], row, "row {place} of S({n},{k})");
-    assert_eq!(rank(row), Ok(Rank { k, place }), "place of {row:?}");
+    let fixed = Reference::fixed(row);
+    assert_eq!(rank(row), Ok(Rank { k, place, fixed }), "place of {row:?}");
     let mut array = [0; 20];
-    assert_eq!(to_array(row, &mut array[..size]), Ok(()));
+    assert_eq!(to_array(row, &mut array[..size]), Ok(fixed));
     assert!(array[..size].iter().zip(1..).all(|(&p, i)| 1 <= p && p <= i), "array {array:?} of {row:?}");
     assert_eq!(array[..size].iter().zip(1..).filter(|(&p, i)| p == *i).count() as u64, k);
     let mut back = [0; 20];
@@ -52,7 +53,7 @@ fn random_places_up_to_twenty() {
             for place in [0, most / 2, most - 1].into_iter().chain((0..200).map(|_| random.below(most))) {
                 let mut row = vec![0; n as usize];
                 assert_eq!(reference.unrank(n, k, place, &mut row), Ok(()));
-                assert_eq!(reference.rank(&row), Ok((k, place)));
+                assert_eq!(reference.rank(&row), Ok((k, place, Reference::fixed(&row))));
                 agrees(n, k, place, &row);
             }
         }
@@ -80,7 +81,7 @@ fn as_stored(line: &str) {
     let (row, stored, step) = (bytes(parts[1]), bytes(parts[2]), bytes(parts[3]));
     agrees(n, k, place, &row);
     let mut array = vec![0; row.len()];
-    assert_eq!(to_array(&row, &mut array), Ok(()));
+    assert_eq!(to_array(&row, &mut array), Ok(Reference::fixed(&row)));
     assert_eq!(array, stored);
     if step == [0, 0, 0] {
         assert_eq!(Ok(place + 1), count(n, k));

@@ -55,6 +55,8 @@ fn print_answer(to: Answer) {
     print_field(to.l);
     print_field(to.place);
     print_pair(perm, array);
+    print::text(b" ");
+    print::number(to.fixed);
 }
 
 // A number with one more digit; any other byte, and a digit too many, leaves it as it is.

@@ -10,9 +10,9 @@ static int empty_list(void) {
     if (count.refusal != 2 || count.count != 0) return 22;
 
     struct osierdrum_Rank rank = osierdrum_rank(&byte, 0);
-    if (rank.refusal != 0 || rank.k != 0 || rank.place != 0) return 23;
+    if (rank.refusal != 0 || rank.k != 0 || rank.place != 0 || rank.fixed != 0) return 23;
     rank = osierdrum_rank(&byte, 1);
-    if (rank.refusal != 6 || rank.k != 0 || rank.place != 0) return 24;
+    if (rank.refusal != 6 || rank.k != 0 || rank.place != 0 || rank.fixed != 0) return 24;
 
     struct osierdrum_Level levels[3], before[3];
     memset(levels, 1, sizeof levels);
@@ -39,10 +39,12 @@ static int empty_list(void) {
         if (osierdrum_unrank(0, 0, 0, lent + 1, len) != longer) return 25;
         if (osierdrum_unrank(0, 0, 1, lent + 1, len) != 3) return 26;
         if (osierdrum_unrank(0, 1, 0, lent + 1, len) != 2) return 27;
-        if (osierdrum_to_array(&byte, 0, lent + 1, len) != longer) return 28;
+        struct osierdrum_Array made = osierdrum_to_array(&byte, 0, lent + 1, len);
+        if (made.refusal != longer || made.fixed != 0) return 28;
         if (osierdrum_from_array(&byte, 0, lent + 1, len) != longer) return 29;
         uint8_t shorter = len == 0 ? 5 : 6;
-        if (osierdrum_to_array(&byte, 1, lent + 1, len) != shorter) return 37;
+        made = osierdrum_to_array(&byte, 1, lent + 1, len);
+        if (made.refusal != shorter || made.fixed != 0) return 37;
         if (osierdrum_from_array(&byte, 1, lent + 1, len) != shorter) return 38;
         if (osierdrum_rows(0, 0, 0, 1, 0, lent + 1, len) != 0) return 30;
         if (osierdrum_rows(0, 0, 0, 1, len, lent + 1, len) != 0) return 31;
@@ -107,6 +109,37 @@ static int exchanges(void) {
     return memcmp(pairs, (const uint8_t[]){99, 1, 2, 2, 3, 1, 5, 99, 99}, 9) == 0 ? 0 : 68;
 }
 
+static int fixed_points(void) {
+    const uint8_t row[4] = {2, 1, 3, 4}, twice[4] = {1, 2, 3, 3}, outside[4] = {1, 2, 3, 5}, wide[21] = {1, 2, 3};
+    uint8_t array[5] = {99, 99, 99, 99, 99};
+
+    struct osierdrum_Array made = osierdrum_to_array(wide, sizeof wide, array, sizeof array);
+    if (made.refusal != 1 || made.fixed != 0) return 71;
+    made = osierdrum_to_array(row, sizeof row, array, 5);
+    if (made.refusal != 5 || made.fixed != 0) return 72;
+    made = osierdrum_to_array(outside, sizeof outside, array, 4);
+    if (made.refusal != 6 || made.fixed != 0) return 73;
+    made = osierdrum_to_array(twice, sizeof twice, array, 4);
+    if (made.refusal != 7 || made.fixed != 0) return 74;
+    if (memcmp(array, (const uint8_t[]){99, 99, 99, 99, 99}, 5) != 0) return 75;
+
+    /* two fixed points and three fixed entries, as many as there are cycles */
+    made = osierdrum_to_array(row, sizeof row, array, 4);
+    if (made.refusal != 0 || made.fixed != 2) return 76;
+    if (memcmp(array, (const uint8_t[]){1, 1, 3, 4, 99}, 5) != 0) return 77;
+    struct osierdrum_Rank rank = osierdrum_rank(row, sizeof row);
+    if (rank.refusal != 0 || rank.k != 3 || rank.fixed != 2) return 78;
+
+    const uint8_t *refused[3] = {wide, outside, twice};
+    const size_t sizes[3] = {sizeof wide, sizeof outside, sizeof twice};
+    const uint8_t numbers[3] = {1, 6, 7};
+    for (size_t i = 0; i < 3; i++) {
+        rank = osierdrum_rank(refused[i], sizes[i]);
+        if (rank.refusal != numbers[i] || rank.k != 0 || rank.place != 0 || rank.fixed != 0) return 79;
+    }
+    return 0;
+}
+
 int main(void) {
     struct osierdrum_Count count = osierdrum_count(5, 2);
     if (count.refusal != 0 || count.count != 50) return 1;
@@ -117,10 +150,11 @@ int main(void) {
     if (memcmp(row, (const uint8_t[]){3, 1, 4, 2, 5}, 5) != 0) return 4;
 
     struct osierdrum_Rank rank = osierdrum_rank(row, sizeof row);
-    if (rank.refusal != 0 || rank.k != 2 || rank.place != 38) return 5;
+    if (rank.refusal != 0 || rank.k != 2 || rank.place != 38 || rank.fixed != 1) return 5;
 
     uint8_t array[5] = {0}, back[5] = {0};
-    if (osierdrum_to_array(row, sizeof row, array, sizeof array) != 0) return 6;
+    struct osierdrum_Array made = osierdrum_to_array(row, sizeof row, array, sizeof array);
+    if (made.refusal != 0 || made.fixed != 1) return 6;
     if (memcmp(array, (const uint8_t[]){1, 1, 1, 3, 5}, 5) != 0) return 7;
     if (osierdrum_from_array(array, sizeof array, back, sizeof back) != 0) return 8;
     if (memcmp(row, back, 5) != 0) return 9;
@@ -131,5 +165,6 @@ int main(void) {
     if (osierdrum_rows(5, 2, 38, 2, 3, page, sizeof page) != 5) return 12;
     int wrong = explanation();
     if (wrong == 0) wrong = exchanges();
+    if (wrong == 0) wrong = fixed_points();
     return wrong != 0 ? wrong : empty_list();
 }

@@ -241,6 +241,11 @@ impl Reference {
         cycles
     }
 
+    /// The i with s(i) = i.
+    pub fn fixed(s: &[u8]) -> u64 {
+        s.iter().zip(1..).filter(|&(&value, position)| value == position).count() as u64
+    }
+
     fn array(s: &[u8], out: &mut [u8]) {
         let mut value = [0u8; MOST + 1];
         let mut inverse = [0u8; MOST + 1];
@@ -257,7 +262,8 @@ impl Reference {
         }
     }
 
-    pub fn rank(&self, s: &[u8]) -> Result<(u64, u64), u8> {
+    /// The cycles, the place and the fixed points.
+    pub fn rank(&self, s: &[u8]) -> Result<(u64, u64, u64), u8> {
         if s.len() > MOST {
             return Err(1);
         }
@@ -279,7 +285,7 @@ impl Reference {
                 at += 1;
             }
         }
-        Ok((cycles as u64, place))
+        Ok((cycles as u64, place, Self::fixed(s)))
     }
 
     /// The letter of the relation that gives S(n,k).
@@ -329,7 +335,8 @@ impl Reference {
         Ok((cycles as u64, place))
     }
 
-    pub fn to_array(&self, s: &[u8], out: &mut [u8]) -> Result<(), u8> {
+    /// The fixed points.
+    pub fn to_array(&self, s: &[u8], out: &mut [u8]) -> Result<u64, u8> {
         if s.len() > MOST {
             return Err(1);
         }
@@ -338,7 +345,7 @@ impl Reference {
         }
         Self::permutation(s)?;
         Self::array(s, out);
-        Ok(())
+        Ok(Self::fixed(s))
     }
 
     /// The product ⟨p1,1⟩·⟨p2,2⟩·…·⟨pn,n⟩, multiplied out from the left.
