@@ -1,6 +1,6 @@
 -- `perm::copy_indexed` meets its contract. The loop's invariant: the first i values are copied; `Indexed`: they have their indices; `FixedTo`: so many of them are fixed.
 -- Assumes nothing.
-use Prim.Native.Nat.{_≤_, _-_}
+use Prim.Native.Nat.{_≤_, _+_, _-_}
 use native.Mathlib.Numerals.{add-one}
 use native.Mathlib.Omega.{arith}
 use mathlib.Core.Logic.{⊎-elim}
@@ -69,7 +69,7 @@ loop-again c =
       rw (add-one, one-more, b .loop .inv .2, take-suc s i 0 (omega arith)),
       indexed-step i (c .wide2 .result) (pre .0) (pre .2) (omega arith) (c .wide2 .ensures) (b .loop .inv .3),
       ⊎-elim
-      (λ w. rw (w .1) (fixed-here (sym value ∙ w .0 .taken) (b .loop .inv .4)))
+      (λ w. let here : getD s i 0 ≡ i + 1 = sym value ∙ w .0 .taken in rw (w .1) (fixed-here here (b .loop .inv .4)))
       (λ w. rw (w .1) (fixed-other (λ e. w .0 .left (value ∙ e)) (b .loop .inv .4)))
       (c .before .if1 .came),
     )
