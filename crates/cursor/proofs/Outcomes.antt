@@ -37,9 +37,9 @@ module _ (w : Cursor) (call : Call) where
   unfolding called turn answered
   called-moves e f = rw (e, f)
 
--- place, permutation and array as a record holds them, the number of fixed points of the permutation at its place, and zeros for the rest
-abbrev pub held : Cursor → Answer
-held w = record {
+-- place, permutation and array as a record holds them, a number of fixed points, and zeros for the rest
+abbrev pub held : Cursor → ℕ → Answer
+held w number = record {
   refusal = 0;
   i = 0;
   j = 0;
@@ -47,13 +47,15 @@ held w = record {
   place = w .place;
   perm = w .perm;
   array = w .array;
-  fixed = fixed (rowOf (machineOf w));
+  fixed = number;
 }
 
--- show hands out what a sound record holds
-pub called-shows : (w : Cursor) → sound w ≡ true → called w show ≡ record { cursor = w; answer = held w }
+-- show hands out what a sound record holds, with the number of fixed points of the permutation at its place
+pub called-shows : (w : Cursor) → sound w ≡ true → called w show ≡ record { cursor = w; answer = held w (fixed (rowOf (machineOf w))) }
 unfolding observe
-called-shows w e = called-moves w show e refl ∙ ap (λ (v : Cursor). record { cursor = v; answer = held v }) (sym (sound-shows w e))
+called-shows w e =
+    called-moves w show e refl
+    ∙ ap (λ (v : Cursor). record { cursor = v; answer = held v (fixed (rowOf (machineOf w))) }) (sym (sound-shows w e))
 
 -- the count that a sound record's place is below, as the table has it
 pub sound-count : (w : Cursor) → sound w ≡ true → (lookupOf (w .n) (w .k) ≡ c (w .n) (w .k)) × (w .place < c (w .n) (w .k)) × (c (w .n) (w .k) < 2 ^ 64)

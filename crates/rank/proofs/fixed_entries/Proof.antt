@@ -3,9 +3,9 @@
 use borrow.Author.Needs.{needs}
 use mathlib.Core.Logic.{⊎-elim}
 use mathlib.Core.Path.{_≡_}
-use Prim.Native.Nat.{_-_, _≤_}
+use Prim.Native.Nat.{_+_, _-_, _≤_}
 use native.Mathlib.Omega.{arith}
-use lib.ListN.{length}
+use lib.ListN.{length, getD}
 use Rattle.perm.proofs.Fixed.{FixedTo, fixed-none, fixed-here, fixed-other}
 use Rattle.rank.proofs.fixed_entries.Statement.{statement}
 use Rattle.rank.proofs.fixed_entries.Tie as tie
@@ -39,10 +39,11 @@ loop-less c = search needs
 
 loop-again : tie.Need-loop-again Inv-loop μ-loop
 loop-again c =
-    let h = c .before .before .before .loop in (
+    let h = c .before .before .before .loop in
+    let a = c .before .before .before .before .args .a .now in (
       omega arith,
       ⊎-elim
-      (λ w. rw (w .1) (fixed-here (w .0 .taken) (h .inv .1)))
+      (λ w. let here : getD a (h .i) 0 ≡ h .i + 1 = w .0 .taken in rw (w .1) (fixed-here here (h .inv .1)))
       (λ w. rw (w .1) (fixed-other (w .0 .left) (h .inv .1)))
       (c .if1 .came),
     )

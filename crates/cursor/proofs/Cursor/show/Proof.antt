@@ -1,9 +1,10 @@
 -- `Cursor::show` meets its contract: a sound record holds what the machine shows, and its fixed points were counted as it was checked. Assumes nothing.
 use mathlib.Core.Path.{_≡_, sym, ap, _∙_}
 use borrow.Author.Needs.{needs}
-use Rattle.cursor.specs.Machine.{show}
-use Rattle.cursor.specs.Walk.{sound}
-use Rattle.cursor.proofs.Outcomes.{fails, passes, called-unsound, called-shows}
+use Rattle.perm.specs.Permutation.{fixed}
+use Rattle.cursor.specs.Machine.{show, rowOf}
+use Rattle.cursor.specs.Walk.{machineOf, sound}
+use Rattle.cursor.proofs.Outcomes.{fails, passes, held, called-unsound, called-shows}
 use Rattle.cursor.proofs.Cursor.show.Statement.{statement}
 use Rattle.cursor.proofs.Cursor.show.Tie as tie
 
@@ -28,7 +29,8 @@ returns-2 c =
     let found = tested .before .before in
     let w = found .before .args .self in
     let passed = passes (verdict found) (tested .if1 .left) in
-    rw (found .check-record .ensures, passed) (sym (called-shows w passed))
+    let number : found .check-record .result .fixed ≡ fixed (rowOf (machineOf w)) = ap (λ r. r .fixed) (found .check-record .ensures) ∙ rw passed in
+    ap (λ f. record { cursor = w; answer = held w f }) number ∙ sym (called-shows w passed)
 
 pub show-spec : {M : Type 1} → statement M
 show-spec =
