@@ -3,32 +3,13 @@
 
 mod reference;
 
-use osierdrum::{rank, to_array, Rank};
-use reference::{damaged, list, Random, Reference};
+/// The calls as the library has them: the safe ones drop what stands beside a refusal.
+#[path = "../src/ffi.rs"]
+#[allow(dead_code)]
+mod ffi;
 
-/// The results as the library hands them back: the safe calls drop what stands beside a refusal.
-mod raw {
-    #[repr(C)]
-    #[derive(Debug, PartialEq)]
-    pub struct Rank {
-        pub refusal: u8,
-        pub k: u64,
-        pub place: u64,
-        pub fixed: u64,
-    }
-
-    #[repr(C)]
-    #[derive(Debug, PartialEq)]
-    pub struct Array {
-        pub refusal: u8,
-        pub fixed: u64,
-    }
-
-    extern "C" {
-        pub fn osierdrum_rank(s: *const u8, s_len: usize) -> Rank;
-        pub fn osierdrum_to_array(s: *const u8, s_len: usize, out: *mut u8, out_len: usize) -> Array;
-    }
-}
+use osierdrum::{rank, to_array, Level, Rank};
+use reference::{list, short_slices, Reference};
 
 /// The number that both calls report, and the fixed entries of the array.
 fn reported(s: &[u8]) -> (u64, u64) {
@@ -100,30 +81,27 @@ fn as_many_permutations_as_there_are() {
 #[test]
 fn zeros_beside_a_refusal() {
     let reference = Reference::new();
-    let mut random = Random(5);
     let mut met = [[0u32; 8]; 2];
-    for _ in 0..40_000 {
-        let n = random.below(24) as usize;
-        let s = damaged(&mut random, n);
-        let size = if random.below(4) == 0 { random.below(24) as usize } else { n };
+    for s in short_slices().chain([vec![1; 21], (1..=21).collect()]) {
         // SAFETY: the pointer and the length are those of one slice.
-        let given = unsafe { raw::osierdrum_rank(s.as_ptr(), s.len()) };
-        let right = match reference.rank(&s) {
-            Ok((k, place, fixed)) => raw::Rank { refusal: 0, k, place, fixed },
-            Err(refusal) => raw::Rank { refusal, k: 0, place: 0, fixed: 0 },
-        };
-        assert_eq!(given, right, "{s:?}");
-        met[0][usize::from(given.refusal)] += 1;
-        let mut out = vec![99; size];
-        // SAFETY: each pointer and length are those of one slice, and the written one is ours alone.
-        let given = unsafe { raw::osierdrum_to_array(s.as_ptr(), s.len(), out.as_mut_ptr(), out.len()) };
-        let right = match reference.to_array(&s, &mut vec![0; size]) {
-            Ok(fixed) => raw::Array { refusal: 0, fixed },
-            Err(refusal) => raw::Array { refusal, fixed: 0 },
-        };
-        assert_eq!(given, right, "{s:?} into {size}");
-        met[1][usize::from(given.refusal)] += 1;
+        let given = unsafe { ffi::osierdrum_rank(s.as_ptr(), s.len()) };
+        let (refusal, (k, place, fixed)) = beside(reference.rank(&s));
+        assert_eq!((given.refusal, given.k, given.place, given.fixed), (refusal, k, place, fixed), "{s:?}");
+        met[0][usize::from(refusal)] += 1;
+        for size in [s.len(), s.len() + 1] {
+            let mut out = vec![99; size];
+            // SAFETY: each pointer and length are those of one slice, and the written one is ours alone.
+            let given = unsafe { ffi::osierdrum_to_array(s.as_ptr(), s.len(), out.as_mut_ptr(), out.len()) };
+            let (refusal, fixed) = beside(reference.to_array(&s, &mut vec![0; size]));
+            assert_eq!((given.refusal, given.fixed), (refusal, fixed), "{s:?} into {size}");
+            met[1][usize::from(refusal)] += 1;
+        }
     }
     assert!([0, 1, 6, 7].iter().all(|&refusal| met[0][refusal] > 0), "{met:?}");
     assert!([0, 1, 5, 6, 7].iter().all(|&refusal| met[1][refusal] > 0), "{met:?}");
+}
+
+/// The refusal, 0 for none, and the rest of the result, zeros beside a refusal.
+fn beside<T: Default>(result: Result<T, u8>) -> (u8, T) {
+    result.map_or_else(|refusal| (refusal, T::default()), |rest| (0, rest))
 }

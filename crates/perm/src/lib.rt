@@ -184,10 +184,7 @@ fn write_product(a: &[u8], out: &mut [u8])
 fn no_array(refusal: u8) -> Array
     ensures { λ r. ⌜ r ≡ record { refusal = refusal; fixed = 0 } ⌝ }
 {
-    Array {
-        refusal,
-        fixed: 0,
-    }
+    Array { refusal, fixed: 0 }
 }
 
 // The array of the permutation s, written to `out`, and the number of fixed points of s. Refusals 1, 5, 6, 7 in document 01's order; a refused call writes nothing.
