@@ -16,7 +16,7 @@ pub record IsPermutation (n : ℕ) (s : List ℕ) : Type 0 where
   pub size : length s ≡ n
   pub once : (v : ℕ) → 1 ≤ v → v ≤ n → tally (eqb v) s ≡ 1
 
--- document 02, e): how many values stand at their own position, the number of i with s(i) = i
+-- document 02, e)'s trams on their own road: how many values stand at their own position, the number of i with s(i) = i
 unfoldable pub fixed : List ℕ → ℕ
 fixed s = tally (λ i. eqb (at s i) i) (positions (length s))
 
