@@ -19,7 +19,7 @@ use Rattle.perm.specs.declared.Array.{Array}
 use Rattle.perm.specs.Checks.{checkToArray, checkPermutation, ToArray}
 use Rattle.perm.proofs.Arrays.{product-permutation, has-array, one-array, cycles-product}
 use Rattle.perm.proofs.Apart as Apart
-use Rattle.perm.proofs.Cases as Fixed
+use Rattle.perm.proofs.Cases as FixedPoints
 use Rattle.gray.specs.declared.Block.the-variants.{Extend as E}
 use Rattle.gray.specs.Order.{Row, S, letter}
 use Rattle.gray.specs.Blocks.{blocks}
@@ -260,5 +260,5 @@ pub fixed-silent : (w : Cursor) (call : Call) → (call ≡ show → ⊥) ⊎ (c
 fixed-silent = no-number
 
 -- examples: fixed points and fixed entries of the array are two numbers
-pub fixed-cases : Fixed.Table
-fixed-cases = Fixed.table
+pub fixed-cases : FixedPoints.Table
+fixed-cases = FixedPoints.table
