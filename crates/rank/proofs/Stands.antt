@@ -4,7 +4,6 @@ use Prim.Native.Nat.{ℕ, zero, suc, _-_, _≤_}
 use native.Mathlib.Omega.{arith}
 use mathlib.Core.Bool.{false}
 use mathlib.Core.List.{List, _++_}
-use lib.Dec.{eqb}
 use borrow.Author.Tests.{eq-eqb}
 use lib.ListN.{length, take, drop, replicate, length-append}
 use lib.Seq.{length-take-le, take-at}
@@ -12,8 +11,7 @@ use Rattle.stirling.specs.Refusal.{_then_}
 use Rattle.stirling.specs.Count.{checkSize}
 use Rattle.stirling.proofs.Refusals.{then-stops, then-passed}
 use Rattle.stirling.proofs.Counts.{size-passed}
-use Rattle.perm.specs.Lists.{tally, positions}
-use Rattle.perm.specs.Permutation.{IsPermutation, at}
+use Rattle.perm.specs.Permutation.{IsPermutation, fixed}
 use Rattle.perm.specs.Cycle.{cycles}
 use Rattle.perm.specs.Array.{IsArrayOf, product, arrayOf}
 use Rattle.perm.specs.Checks.{checkValues, checkTwice, checkPermutation, ToArray}
@@ -66,7 +64,8 @@ module _ {s a : List ℕ} (w : IsArrayOf s a) where
   pub array-padded : length s ≤ 20 → a ++ drop (length s) (replicate 20 0) ≡ arrayOf (length s) s ++ replicate (20 - length s) 0
   array-padded h = rw (drop-replicate {A = ℕ} 0 20 (length s) h, is-array-of w (of-array w))
 
-  pub fixed-cycles : {k : ℕ} → k ≡ tally (λ i. eqb (at a i) i) (positions (length a)) → k ≡ cycles s
+  pub fixed-cycles : {k : ℕ} → k ≡ fixed a → k ≡ cycles s
+  unfolding fixed
   fixed-cycles e = e ∙ sym (cycles-product (rw (w .array .size) (w .array))) ∙ ap cycles (w .equal)
 
 -- where checks 1, 6 and 7 pass there is a permutation of at most 20 values

@@ -8,8 +8,8 @@ ghost use mathlib.Core.List.{_++_, reverse};
 ghost use lib.Dec.{eqb};
 ghost use lib.ListN.{length, replicate, take, drop};
 ghost use Rattle.stirling.specs.Count.{c, IsTable};
-ghost use Rattle.perm.specs.Lists.{tally, positions};
-ghost use Rattle.perm.specs.Permutation.{at};
+ghost use Rattle.perm.specs.Lists.{positions};
+ghost use Rattle.perm.specs.Permutation.{fixed};
 ghost use Rattle.perm.specs.Array.{product};
 ghost use Rattle.gray.specs.Order.{S};
 ghost use Rattle.gray.specs.Blocks.{blocks, numberOf};
@@ -414,7 +414,7 @@ fn rank_reading(counts: &[u64], a: &[u8], k: u64, backward: bool) -> Sum
 
 // How many entries i of a transposition array are i itself: the number of cycles of its permutation.
 fn fixed_entries(a: &[u8]) -> u64
-    ensures { λ r. ⌜ r ≡ tally (λ i. eqb (at (now (a .entry)) i) i) (positions (length (now (a .entry)))) ⌝ }
+    ensures { λ r. ⌜ r ≡ fixed (now (a .entry)) ⌝ }
 {
     let mut fixed = 0;
     let mut i = 0;

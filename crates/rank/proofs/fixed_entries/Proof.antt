@@ -6,7 +6,7 @@ use mathlib.Core.Path.{_≡_}
 use Prim.Native.Nat.{_+_, _-_, _≤_}
 use native.Mathlib.Omega.{arith}
 use lib.ListN.{length, getD}
-use Rattle.perm.proofs.Fixed.{FixedTo, fixed-none, fixed-here, fixed-other}
+use Rattle.perm.proofs.Fixed.{FixedTo, fixed-none, fixed-here, fixed-other, fixed-all}
 use Rattle.rank.proofs.fixed_entries.Statement.{statement}
 use Rattle.rank.proofs.fixed_entries.Tie as tie
 
@@ -49,9 +49,7 @@ loop-again c =
     )
 
 returns : tie.Need-returns Inv-loop μ-loop
-returns c =
-    let done : c .before .loop .i ≡ length (c .before .before .args .a .now) = omega arith in
-    rw done at (c .before .loop .inv .1 .counted)
+returns c = fixed-all (omega arith) (c .before .loop .inv .1)
 
 pub fixed-entries-spec : {M : Type 1} → statement M
 fixed-entries-spec =
