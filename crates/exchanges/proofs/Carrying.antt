@@ -10,17 +10,11 @@ use lib.Seq.{take-suc, take-suc-set}
 use Rattle.perm.specs.Lists.{positions}
 use Rattle.perm.specs.Permutation.{IsPermutation, at, put, exchange}
 use Rattle.perm.specs.Array.{position}
-use Rattle.perm.proofs.Tally.{length-range, getD-range}
-use Rattle.perm.proofs.Values.{in-range, injective, onto, permutation, same-at}
+use Rattle.perm.proofs.Tally.{getD-map}
+use Rattle.perm.proofs.Values.{in-range, injective, onto, permutation, at-map, same-at, map-at}
 use Rattle.perm.proofs.ArrayOf.{position-at}
 use Rattle.perm.proofs.Steps.{value-bound}
 use Rattle.exchanges.specs.Carrying.{multiply, Carries, carrying}
-
--- an element of a mapped list
-getD-map : (f : ℕ → ℕ) (u : List ℕ) (i : ℕ) → i < length u → getD (map f u) i 0 ≡ f (getD u i 0)
-getD-map f [] i h = absurd (omega arith)
-getD-map f (x ∷ u) zero h = refl
-getD-map f (x ∷ u) (suc i) h = getD-map f u i (omega arith)
 
 -- a mapped list with an element replaced
 map-set : (f : ℕ → ℕ) (u : List ℕ) (i v : ℕ) → map f (set u i v) ≡ set (map f u) i (f v)
@@ -31,7 +25,7 @@ map-set f (x ∷ u) (suc i) v = ap (λ (l : List ℕ). f x ∷ l) (map-set f u i
 -- (s·u)(i) = s(u(i))
 at-multiply : (s u : List ℕ) (i : ℕ) → 1 ≤ i → i ≤ length u → at (multiply s u) i ≡ at s (at u i)
 unfolding multiply
-at-multiply s u i h k = getD-map (at s) u (i - 1) (omega arith)
+at-multiply s u = at-map (at s) u
 
 length-multiply : (s u : List ℕ) → length (multiply s u) ≡ length u
 unfolding multiply
@@ -48,13 +42,8 @@ multiply-exchange s u a b ha ka hb kb =
 
 -- the product with the identity
 pub multiply-identity : {n : ℕ} (s : List ℕ) → length s ≡ n → multiply s (positions n) ≡ s
-multiply-identity {n} s e =
-    same-at
-    (multiply s (positions n))
-    s
-    (length-multiply s (positions n) ∙ length-range 1 n ∙ sym e)
-    (λ i h k. at-multiply s (positions n) i h (omega (arith, length-multiply s (positions n)))
-    ∙ ap (at s) (getD-range 1 n (i - 1) (omega (arith, length-multiply s (positions n), length-range 1 n)) ∙ omega arith))
+unfolding multiply
+multiply-identity = map-at
 
 -- a value of a permutation stands where `position` says
 module _ {n : ℕ} {s : List ℕ} (p : IsPermutation n s) (v : ℕ) (h : 1 ≤ v) (k : v ≤ n) where

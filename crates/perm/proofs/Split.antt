@@ -15,11 +15,11 @@ use Rattle.perm.proofs.Tally.{tally-append, tally-set}
 use Rattle.perm.proofs.Values.{in-range, onto, beyond, at-suc}
 
 -- a list with one value added at its end: the values before it
-at-snoc-low : (s : List ℕ) (x j : ℕ) → 1 ≤ j → j ≤ length s → at (s ++ (x ∷ [])) j ≡ at s j
+pub at-snoc-low : (s : List ℕ) (x j : ℕ) → 1 ≤ j → j ≤ length s → at (s ++ (x ∷ [])) j ≡ at s j
 at-snoc-low s x j h k = List·getD-append s (x ∷ []) 0 (j - 1) (omega arith)
 
 -- and the one added
-at-snoc-top : {m : ℕ} (s : List ℕ) (x : ℕ) → length s ≡ m → at (s ++ (x ∷ [])) (suc m) ≡ x
+pub at-snoc-top : {m : ℕ} (s : List ℕ) (x : ℕ) → length s ≡ m → at (s ++ (x ∷ [])) (suc m) ≡ x
 at-snoc-top {m} s x z = getD-at s x [] 0 (suc m - 1) (omega arith)
 
 module _ {m : ℕ} (γ : List ℕ) (z : length γ ≡ m) where
@@ -130,10 +130,10 @@ remove m i s = put (take m s) i (at s (suc m))
 
 -- m + 1 values
 module _ {m : ℕ} (s : List ℕ) (z : length s ≡ suc m) where
-  first-last : s ≡ take m s ++ (at s (suc m) ∷ [])
+  pub first-last : s ≡ take m s ++ (at s (suc m) ∷ [])
   first-last = rw (at-suc s m) (sym (take-all (suc m) s (omega arith)) ∙ take-suc s m 0 (omega arith))
 
-  length-first : length (take m s) ≡ m
+  pub length-first : length (take m s) ≡ m
   length-first = length-take-le m s (omega arith)
 
   length-remove : (i : ℕ) → length (remove m i s) ≡ m

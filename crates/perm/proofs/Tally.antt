@@ -69,6 +69,12 @@ getD-range a zero i h = omega arith
 getD-range a (suc n) zero h = sym (add-zero a)
 getD-range a (suc n) (suc i) h = let k : i < n = omega arith in omega (arith, getD-range (suc a) n i k)
 
+-- an element of a mapped list
+pub getD-map : (f : ℕ → ℕ) (s : List ℕ) (i : ℕ) → i < length s → getD (map f s) i 0 ≡ f (getD s i 0)
+getD-map f [] i h = absurd (omega arith)
+getD-map f (x ∷ s) zero h = refl
+getD-map f (x ∷ s) (suc i) h = getD-map f s i (omega arith)
+
 -- the last position's test comes last
 pub tally-positions : (p : ℕ → Bool) (n : ℕ) → tally p (positions (suc n)) ≡ tally p (positions n) + one (p (suc n))
 unfolding tally

@@ -4,9 +4,9 @@ use mathlib.Core.Path.{_≡_, refl, sym, ap, _∙_}
 use Prim.Native.Nat.{ℕ, zero, suc, _+_, _-_, _≤_, _<_}
 use native.Mathlib.Omega.{arith}
 use mathlib.Core.Bool.{Bool, true, false, true≢false}
-use mathlib.Core.List.{List}
+use mathlib.Core.List.{List, map}
 use lib.Dec.{eqb}
-use lib.ListN.{length, getD}
+use lib.ListN.{length, getD, length-map}
 use lib.Seq.{ext-getD}
 use borrow.Table.Steps.{cases}
 use borrow.Author.Tests.{eqb-true, eqb-false, eq-eqb, ne-eqb}
@@ -14,7 +14,7 @@ use Rattle.stirling.specs.Refusal.{within}
 use Rattle.stirling.proofs.Refusals.{within-holds, within-fails, within-true}
 use Rattle.perm.specs.Lists.{one, tally, positions}
 use Rattle.perm.specs.Permutation.{IsPermutation, at}
-use Rattle.perm.proofs.Tally.{tally-sum, tally-positions, tally-none, tally-all, all-pass, some-passes, two-pass, at-most-one, range-none-passes, range-tally-none}
+use Rattle.perm.proofs.Tally.{tally-map, tally-sum, length-range, getD-map, getD-range, tally-positions, tally-none, tally-all, all-pass, some-passes, two-pass, at-most-one, range-none-passes, range-tally-none}
 
 -- a number that is not within 1 to n is within 1 to n + 1 just if it is n + 1
 within-top : (n x : ℕ) → within 1 n x ≡ false → one (within 1 (suc n) x) ≡ one (eqb (suc n) x)
@@ -62,21 +62,21 @@ pigeonhole s (suc n) h =
 pub at-suc : (s : List ℕ) (i : ℕ) → at s (suc i) ≡ getD s i 0
 at-suc s i = let e : suc i - 1 ≡ i = omega arith in rw e
 
--- every entry of a permutation is within 1 to n
-all-within : {n : ℕ} {s : List ℕ} → IsPermutation n s → tally (within 1 n) s ≡ n
+-- as many entries of a permutation are within 1 to m as there are such values
+pub values-within : {n : ℕ} {s : List ℕ} → IsPermutation n s → (m : ℕ) → m ≤ n → tally (within 1 m) s ≡ m
 unfolding missing
-all-within {n} {s} p =
+values-within {n} {s} p m l =
     omega (
       arith,
-      pigeonhole s n (λ v h k. omega (arith, p .once v h k)),
-      range-tally-none (missing s) 1 n (λ v h k. ne-eqb (tally (eqb v) s) 0 (omega (arith, p .once v h (omega arith)))),
+      pigeonhole s m (λ v h k. omega (arith, p .once v h (omega arith))),
+      range-tally-none (missing s) 1 m (λ v h k. ne-eqb (tally (eqb v) s) 0 (omega (arith, p .once v h (omega arith)))),
     )
 
 -- the value at a position is within 1 to n
 pub in-range : {n : ℕ} {s : List ℕ} → IsPermutation n s → (i : ℕ) → 1 ≤ i → i ≤ n → (1 ≤ at s i) × (at s i ≤ n)
 in-range {n} {s} p i h k =
     let z = p .size in
-    within-true 1 n (at s i) (all-pass (within 1 n) 0 s (omega (arith, all-within p)) (i - 1) (omega arith))
+    within-true 1 n (at s i) (all-pass (within 1 n) 0 s (omega (arith, values-within p n (omega arith))) (i - 1) (omega arith))
 
 -- a value past n stands nowhere
 pub beyond : {n : ℕ} {s : List ℕ} → IsPermutation n s → (v : ℕ) → n < v → tally (eqb v) s ≡ 0
@@ -134,6 +134,24 @@ permutation {n} {s} e r d = counted s e r (λ v a b. at-most-one (eqb v) 0 s (ap
         let same : at s (suc i) ≡ at s (suc j) = omega (arith, at-suc s i, at-suc s j, eqb-true v (getD s i 0) t, eqb-true v (getD s j 0) u) in
         omega (arith, d (suc i) (suc j) (omega arith) (omega arith) (omega arith) (omega arith) same)
 
+-- the value of a mapped list at a position
+pub at-map : (f : ℕ → ℕ) (s : List ℕ) (i : ℕ) → 1 ≤ i → i ≤ length s → at (map f s) i ≡ f (at s i)
+at-map f s i h k = getD-map f s (i - 1) (omega arith)
+
+-- and of the identity
+pub at-positions : (n i : ℕ) → 1 ≤ i → i ≤ n → at (positions n) i ≡ i
+at-positions n i h k = omega (arith, getD-range 1 n (i - 1) (omega arith))
+
 -- two lists of one length with the same value at each position are equal
 pub same-at : (s t : List ℕ) → length s ≡ length t → ((i : ℕ) → 1 ≤ i → i ≤ length s → at s i ≡ at t i) → s ≡ t
 same-at s t e h = ext-getD 0 s t e (λ i k. sym (at-suc s i) ∙ h (suc i) (omega arith) (omega arith) ∙ at-suc t i)
+
+-- the values at the positions 1 to n, one after another, are the list
+pub map-at : {n : ℕ} (s : List ℕ) → length s ≡ n → map (at s) (positions n) ≡ s
+map-at {n} s e =
+    let l : length (map (at s) (positions n)) ≡ n = length-map (positions n) (at s) ∙ length-range 1 n in
+    same-at (map (at s) (positions n)) s (l ∙ sym e) (λ i h k. at-map (at s) (positions n) i h (omega (arith, length-range 1 n)) ∙ ap (at s) (at-positions n i h (omega arith)))
+
+-- so a test counts alike on the values and on the positions
+pub tally-at : {n : ℕ} (p : ℕ → Bool) (s : List ℕ) → length s ≡ n → tally (λ i. p (at s i)) (positions n) ≡ tally p s
+tally-at {n} p s e = sym (tally-map p (at s) (positions n)) ∙ ap (tally p) (map-at s e)

@@ -75,7 +75,7 @@ fn check_twice(s: &[u8]) -> u8
 }
 
 // Check 6 on an array: REFUSED_VALUE if some entry i is not 1 to i.
-fn check_entries(a: &[u8]) -> u8
+pub fn check_entries(a: &[u8]) -> u8
     ensures { λ r. ⌜ r ≡ checkEntries (now (a .entry)) ⌝ }
 {
     let mut i = 0;
@@ -112,7 +112,7 @@ pub fn check_permutation(s: &[u8]) -> u8
 }
 
 // The checks 1 and 5 on the lengths of the slice that is read and of the one that is lent.
-fn check_lengths(read: usize, lent: usize) -> u8
+pub fn check_lengths(read: usize, lent: usize) -> u8
     ensures { λ r. ⌜ r ≡ checkSize read then checkLent read lent ⌝ }
 {
     let size = stirling::check_size(read as u64);
