@@ -91,7 +91,7 @@ lower-within m v x d a b h k =
     (λ f. let l = ltb-false v x f in rw f (h, omega arith))
 
 -- a sequence with the element v after it
-pub appended : ℕ → List ℕ → List ℕ
+unfoldable pub appended : ℕ → List ℕ → List ℕ
 appended v q = map (raise v) q ++ (v ∷ [])
 
 module _ {m : ℕ} (v : ℕ) (q : List ℕ) (z : length q ≡ m) where

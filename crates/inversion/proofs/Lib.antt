@@ -1,3 +1,6 @@
+pub mod Counted
 pub mod Tables
 pub mod Appended
 pub mod Sequences
+pub mod Steps
+pub mod Calls
