@@ -4,3 +4,4 @@ pub mod Appended
 pub mod Sequences
 pub mod Steps
 pub mod Calls
+pub mod Cases

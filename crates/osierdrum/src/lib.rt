@@ -8,6 +8,7 @@ ghost use Rattle.perm.specs.Checks.{ToArray, FromArray};
 ghost use Rattle.rank.specs.Place.{Unranked, Ranked, RowsWritten};
 ghost use Rattle.explain.specs.Explain.{Explains};
 ghost use Rattle.exchanges.specs.Between.{Exchanged};
+ghost use Rattle.inversion.specs.Calls.{FromInversions, ToInversions};
 ghost use Rattle.osierdrum.specs.Exports.{counted, standing};
 
 // A count, or a refusal with 0.
@@ -106,4 +107,20 @@ pub extern "C" fn osierdrum_exchanges(from: &[u8], to: &[u8], out: &mut [u8]) ->
     ensures { λ r. ⌜ Exchanged (now (from .entry)) (now (to .entry)) (now (out .entry)) r (now (out .exit)) ⌝ }
 {
     exchanges::between(from, to, out)
+}
+
+// The sequence of an inversion table. Refusals 1, 5, 6.
+#[no_mangle]
+pub extern "C" fn osierdrum_from_inversions(a: &[u8], out: &mut [u8]) -> u8
+    ensures { λ r. ⌜ FromInversions (now (a .entry)) (now (out .entry)) r (now (out .exit)) ⌝ }
+{
+    inversion::from_inversions(a, out)
+}
+
+// The inversion table of a sequence. Refusals 1, 5, 6, 7.
+#[no_mangle]
+pub extern "C" fn osierdrum_to_inversions(s: &[u8], out: &mut [u8]) -> u8
+    ensures { λ r. ⌜ ToInversions (now (s .entry)) (now (out .entry)) r (now (out .exit)) ⌝ }
+{
+    inversion::to_inversions(s, out)
 }

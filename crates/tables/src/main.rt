@@ -22,7 +22,19 @@ fn record_lows(q: &[u8]) -> usize
     count
 }
 
-// The line of a table of n entries.
+// The line of a table: `sequence` and `table` are as many bytes to write its sequence to, and the table of that.
+fn print_line(a: &[u8], sequence: &mut [u8], table: &mut [u8]) {
+    inversion::from_inversions(a, sequence);
+    inversion::to_inversions(sequence, table);
+    print::values(table);
+    print::text(b" | ");
+    print::values(sequence);
+    print::text(b" | ");
+    print::number(record_lows(sequence) as u64);
+    print::text(b"\n");
+}
+
+// The same, with space for both.
 fn print_table(a: &[u8]) {
     let n = a.len();
     if 20 < n {
@@ -30,14 +42,7 @@ fn print_table(a: &[u8]) {
     }
     let mut sequence = [0u8; 20];
     let mut table = [0u8; 20];
-    inversion::from_inversions(a, &mut sequence[..n]);
-    inversion::to_inversions(&sequence[..n], &mut table[..n]);
-    print::values(&table[..n]);
-    print::text(b" | ");
-    print::values(&sequence[..n]);
-    print::text(b" | ");
-    print::number(record_lows(&sequence[..n]) as u64);
-    print::text(b"\n");
+    print_line(a, &mut sequence[..n], &mut table[..n]);
 }
 
 // The lines of all tables of a text.
