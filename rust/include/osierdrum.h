@@ -67,6 +67,15 @@ struct osierdrum_Explanation osierdrum_explain(const uint8_t *s, size_t s_len,
 struct osierdrum_Exchanges osierdrum_exchanges(const uint8_t *from, size_t from_len, const uint8_t *to, size_t to_len,
                                                uint8_t *out, size_t out_len);
 
+/* The sequence of an inversion table: the values 1 to n in the one order in which, for each i, one more than the number of
+ * earlier elements that are higher than the i-th is entry i of a. Entry i is 1 to i, as in a transposition array. The
+ * number of i with entry i = i is the number of record lows, the elements below all before them. Refusals 1, 5, 6. The two
+ * slices do not overlap. */
+uint8_t osierdrum_from_inversions(const uint8_t *a, size_t a_len, uint8_t *out, size_t out_len);
+
+/* The inversion table of a sequence of the values 1 to n, each once. Refusals 1, 5, 6, 7. The two slices do not overlap. */
+uint8_t osierdrum_to_inversions(const uint8_t *s, size_t s_len, uint8_t *out, size_t out_len);
+
 #ifdef __cplusplus
 }
 #endif

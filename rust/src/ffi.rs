@@ -53,4 +53,6 @@ extern "C" {
         out: *mut u8,
         out_len: usize,
     ) -> Exchanges;
+    pub fn osierdrum_from_inversions(a: *const u8, a_len: usize, out: *mut u8, out_len: usize) -> u8;
+    pub fn osierdrum_to_inversions(s: *const u8, s_len: usize, out: *mut u8, out_len: usize) -> u8;
 }

@@ -369,3 +369,42 @@ pub fn exchanges_into(from: &[u8], to: &[u8], out: &mut [u8]) -> Result<Exchange
     };
     Refusal::checked(answer.refusal).map(|()| Exchanges { count: answer.count, written: answer.written })
 }
+
+/// Writes the sequence of the inversion table `a` to `out`, which is as long: the values 1 to n in the one order in which,
+/// for each i, one more than the number of earlier elements that are higher than the i-th is `a`'s entry i.
+///
+/// An inversion table is read from the same arrays as [`from_array`] reads: 1 ≤ a(i) ≤ i. An element is a record low if it
+/// is below all before it; the sequence has as many as there are i with a(i) = i. So the arrays of the permutations of n
+/// with k cycles, as [`to_array`] writes them, give the sequences of n with exactly k record lows, each one time.
+///
+/// Refusals, in this order: [`Refusal::Size`], [`Refusal::Lent`], [`Refusal::Value`].
+///
+/// ```
+/// let mut sequence = [0; 5];
+/// osierdrum::from_inversions(&[1, 1, 1, 3, 5], &mut sequence)?; // the array of the permutation 3 1 4 2 5, of two cycles
+/// assert_eq!(sequence, [2, 4, 5, 3, 1]); // its record lows are 2 and 1
+/// # Ok::<(), osierdrum::Refusal>(())
+/// ```
+pub fn from_inversions(a: &[u8], out: &mut [u8]) -> Result<(), Refusal> {
+    // SAFETY: each pointer and length are those of one slice, and the written one is ours alone.
+    Refusal::checked(unsafe { ffi::osierdrum_from_inversions(a.as_ptr(), a.len(), out.as_mut_ptr(), out.len()) })
+}
+
+/// Writes the inversion table of the sequence `s` to `out`, which is as long: entry i is one more than the number of
+/// elements before the i-th that are higher than it. The sequence is a permutation: the values 1 to n, each once.
+///
+/// Refusals, in this order: [`Refusal::Size`], [`Refusal::Lent`], [`Refusal::Value`], [`Refusal::Twice`].
+///
+/// ```
+/// let mut table = [0; 5];
+/// osierdrum::to_inversions(&[2, 4, 5, 3, 1], &mut table)?;
+/// assert_eq!(table, [1, 1, 1, 3, 5]); // before 3 stand 4 and 5, and all four before 1 are higher
+/// let mut row = [0; 5];
+/// osierdrum::from_array(&table, &mut row)?; // the permutation whose array it is
+/// assert_eq!(row, [3, 1, 4, 2, 5]);
+/// # Ok::<(), osierdrum::Refusal>(())
+/// ```
+pub fn to_inversions(s: &[u8], out: &mut [u8]) -> Result<(), Refusal> {
+    // SAFETY: each pointer and length are those of one slice, and the written one is ours alone.
+    Refusal::checked(unsafe { ffi::osierdrum_to_inversions(s.as_ptr(), s.len(), out.as_mut_ptr(), out.len()) })
+}

@@ -3,7 +3,7 @@
 
 mod reference;
 
-use osierdrum::{count, from_array, rank, rows, to_array, unrank, Refusal};
+use osierdrum::{count, from_array, from_inversions, rank, rows, to_array, to_inversions, unrank, Refusal};
 use reference::{damaged, short_slices, Random, Reference};
 use std::fmt::Debug;
 
@@ -114,10 +114,10 @@ fn offsets_in_rows() {
 }
 
 #[test]
-fn slices_in_rank_and_arrays() {
+fn slices_in_rank_arrays_and_inversions() {
     let reference = Reference::new();
     let mut random = Random(7);
-    let mut met = [[0u32; 8]; 3];
+    let mut met = [[0u32; 8]; 5];
     for _ in 0..60_000 {
         let n = random.below(24) as usize;
         let s = damaged(&mut random, n);
@@ -127,10 +127,16 @@ fn slices_in_rank_and_arrays() {
         met[0][usize::from(given.err().unwrap_or(0))] += 1;
         met[1][usize::from(same(size, |out| to_array(&s, out), |out| reference.to_array(&s, out)))] += 1;
         met[2][usize::from(same(size, |out| from_array(&s, out), |out| reference.from_array(&s, out)))] += 1;
+        met[3][usize::from(same(size, |out| to_inversions(&s, out), |out| reference.to_inversions(&s, out)))] += 1;
+        met[4][usize::from(same(size, |out| from_inversions(&s, out), |out| reference.from_inversions(&s, out)))] += 1;
     }
     assert!([0, 1, 6, 7].iter().all(|&refusal| met[0][refusal] > 0), "{met:?}");
-    assert!([0, 1, 5, 6, 7].iter().all(|&refusal| met[1][refusal] > 0), "{met:?}");
-    assert!([0, 1, 5, 6].iter().all(|&refusal| met[2][refusal] > 0), "{met:?}");
+    for call in [1, 3] {
+        assert!([0, 1, 5, 6, 7].iter().all(|&refusal| met[call][refusal] > 0), "{met:?}");
+    }
+    for call in [2, 4] {
+        assert!([0, 1, 5, 6].iter().all(|&refusal| met[call][refusal] > 0), "{met:?}");
+    }
 }
 
 #[test]
@@ -140,6 +146,8 @@ fn every_short_slice() {
         assert_eq!(ranked(&s), reference.rank(&s));
         same(s.len(), |out| to_array(&s, out), |out| reference.to_array(&s, out));
         same(s.len(), |out| from_array(&s, out), |out| reference.from_array(&s, out));
+        same(s.len(), |out| to_inversions(&s, out), |out| reference.to_inversions(&s, out));
+        same(s.len(), |out| from_inversions(&s, out), |out| reference.from_inversions(&s, out));
     }
 }
 
@@ -149,4 +157,7 @@ fn all_values_before_any_repetition() {
     assert_eq!(to_array(&[2, 2, 0], &mut [0; 3]), Err(Refusal::Value));
     assert_eq!(to_array(&[2, 2, 0], &mut [0; 4]), Err(Refusal::Lent));
     assert_eq!(to_array(&[2, 2, 1], &mut [0; 3]), Err(Refusal::Twice));
+    assert_eq!(to_inversions(&[2, 2, 0], &mut [0; 3]), Err(Refusal::Value));
+    assert_eq!(to_inversions(&[2, 2, 0], &mut [0; 4]), Err(Refusal::Lent));
+    assert_eq!(to_inversions(&[2, 2, 1], &mut [0; 3]), Err(Refusal::Twice));
 }

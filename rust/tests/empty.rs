@@ -2,8 +2,8 @@
 //! reference; the other tests compare n = 0 with the reference among the rest.
 
 use osierdrum::{
-    count, exchanges, exchanges_into, explain, explain_into, from_array, rank, rows, to_array, unrank, Exchanges, Explained,
-    Explanation, Level, Rank, Refusal,
+    count, exchanges, exchanges_into, explain, explain_into, from_array, from_inversions, rank, rows, to_array, to_inversions,
+    unrank, Exchanges, Explained, Explanation, Level, Rank, Refusal,
 };
 
 /// A call on a lent slice of `size` bytes, with guards: its result. No byte changes, whether it is served or refused.
@@ -68,9 +68,9 @@ fn fixed_points_of_an_array() {
 }
 
 #[test]
-fn arrays() {
+fn arrays_and_inversions() {
     let unnumbered = |s: &[u8], out: &mut [u8]| to_array(s, out).map(|_| ());
-    for call in [unnumbered, from_array] {
+    for call in [unnumbered, from_array, from_inversions, to_inversions] {
         assert_eq!(lent(0, |out| call(&[], out)), Ok(()));
         assert_eq!(lent(1, |out| call(&[], out)), Err(Refusal::Lent));
         assert_eq!(lent(0, |out| call(&[1], out)), Err(Refusal::Lent));

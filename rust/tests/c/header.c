@@ -42,10 +42,14 @@ static int empty_list(void) {
         struct osierdrum_Array made = osierdrum_to_array(&byte, 0, lent + 1, len);
         if (made.refusal != longer || made.fixed != 0) return 28;
         if (osierdrum_from_array(&byte, 0, lent + 1, len) != longer) return 29;
+        if (osierdrum_from_inversions(&byte, 0, lent + 1, len) != longer) return 45;
+        if (osierdrum_to_inversions(&byte, 0, lent + 1, len) != longer) return 46;
         uint8_t shorter = len == 0 ? 5 : 6;
         made = osierdrum_to_array(&byte, 1, lent + 1, len);
         if (made.refusal != shorter || made.fixed != 0) return 37;
         if (osierdrum_from_array(&byte, 1, lent + 1, len) != shorter) return 38;
+        if (osierdrum_from_inversions(&byte, 1, lent + 1, len) != shorter) return 47;
+        if (osierdrum_to_inversions(&byte, 1, lent + 1, len) != shorter) return 48;
         if (osierdrum_rows(0, 0, 0, 1, 0, lent + 1, len) != 0) return 30;
         if (osierdrum_rows(0, 0, 0, 1, len, lent + 1, len) != 0) return 31;
         if (osierdrum_rows(0, 0, 0, 1, len + 1, lent + 1, len) != 5) return 32;
@@ -140,6 +144,26 @@ static int fixed_points(void) {
     return 0;
 }
 
+static int inversions(void) {
+    const uint8_t table[5] = {1, 1, 1, 3, 5}, sequence[5] = {2, 4, 5, 3, 1}, high[5] = {1, 3, 1, 1, 1}, wide[21] = {0};
+    const uint8_t twice[5] = {2, 4, 2, 3, 1}, outside[5] = {2, 2, 5, 3, 6};
+    uint8_t out[6] = {99, 99, 99, 99, 99, 99};
+
+    if (osierdrum_from_inversions(wide, sizeof wide, out, sizeof out) != 1) return 81;
+    if (osierdrum_from_inversions(high, sizeof high, out, 6) != 5) return 82;
+    if (osierdrum_from_inversions(high, sizeof high, out, 5) != 6) return 83;
+    if (osierdrum_to_inversions(wide, sizeof wide, out, sizeof out) != 1) return 84;
+    if (osierdrum_to_inversions(outside, sizeof outside, out, 4) != 5) return 85;
+    if (osierdrum_to_inversions(outside, sizeof outside, out, 5) != 6) return 86;
+    if (osierdrum_to_inversions(twice, sizeof twice, out, 5) != 7) return 87;
+    if (memcmp(out, (const uint8_t[]){99, 99, 99, 99, 99, 99}, 6) != 0) return 88;
+
+    if (osierdrum_from_inversions(table, sizeof table, out, 5) != 0) return 89;
+    if (memcmp(out, (const uint8_t[]){2, 4, 5, 3, 1, 99}, 6) != 0) return 90;
+    if (osierdrum_to_inversions(sequence, sizeof sequence, out + 1, 5) != 0) return 91;
+    return memcmp(out, (const uint8_t[]){2, 1, 1, 1, 3, 5}, 6) == 0 ? 0 : 92;
+}
+
 int main(void) {
     struct osierdrum_Count count = osierdrum_count(5, 2);
     if (count.refusal != 0 || count.count != 50) return 1;
@@ -166,5 +190,6 @@ int main(void) {
     int wrong = explanation();
     if (wrong == 0) wrong = exchanges();
     if (wrong == 0) wrong = fixed_points();
+    if (wrong == 0) wrong = inversions();
     return wrong != 0 ? wrong : empty_list();
 }

@@ -348,8 +348,8 @@ impl Reference {
         Ok(Self::fixed(s))
     }
 
-    /// The product ⟨p1,1⟩·⟨p2,2⟩·…·⟨pn,n⟩, multiplied out from the left.
-    pub fn from_array(&self, a: &[u8], out: &mut [u8]) -> Result<(), u8> {
+    /// The checks on an array and on the bytes lent for what it gives.
+    fn entries(a: &[u8], out: &[u8]) -> Result<(), u8> {
         if a.len() > MOST {
             return Err(1);
         }
@@ -359,11 +359,45 @@ impl Reference {
         if a.iter().enumerate().any(|(i, &p)| p == 0 || usize::from(p) > i + 1) {
             return Err(6);
         }
+        Ok(())
+    }
+
+    /// The product ⟨p1,1⟩·⟨p2,2⟩·…·⟨pn,n⟩, multiplied out from the left.
+    pub fn from_array(&self, a: &[u8], out: &mut [u8]) -> Result<(), u8> {
+        Self::entries(a, out)?;
         for (i, v) in out.iter_mut().enumerate() {
             *v = i as u8 + 1;
         }
         for (i, &p) in a.iter().enumerate() {
             out.swap(usize::from(p) - 1, i);
+        }
+        Ok(())
+    }
+
+    /// The sequence of an inversion table, from its end: entry i tells which of the values that are left, from the highest down, stands at i.
+    pub fn from_inversions(&self, a: &[u8], out: &mut [u8]) -> Result<(), u8> {
+        Self::entries(a, out)?;
+        let mut left: Vec<u8> = (1..=a.len() as u8).rev().collect();
+        for (i, &p) in a.iter().enumerate().rev() {
+            out[i] = left.remove(usize::from(p) - 1);
+        }
+        Ok(())
+    }
+
+    /// The inversion table of a sequence, from its end too: entry i is where the element at i stands among those that are left, from the highest down.
+    pub fn to_inversions(&self, s: &[u8], out: &mut [u8]) -> Result<(), u8> {
+        if s.len() > MOST {
+            return Err(1);
+        }
+        if out.len() != s.len() {
+            return Err(5);
+        }
+        Self::permutation(s)?;
+        let mut left: Vec<u8> = (1..=s.len() as u8).rev().collect();
+        for (i, value) in s.iter().enumerate().rev() {
+            let at = left.iter().position(|other| other == value).expect("each value once");
+            left.remove(at);
+            out[i] = at as u8 + 1;
         }
         Ok(())
     }
