@@ -1,4 +1,4 @@
--- The request's demands 2 and 3 as theorems, and what document 02, b) to e), adds, to be read from top to bottom beside them. Each is a law of a crate below, stated
+-- The request's demands 2 and 3 as theorems, and what document 02, b) to f), adds, to be read from top to bottom beside them. Each is a law of a crate below, stated
 -- in full here so that nothing has to be looked up but the definitions in specs/. What demand 1 asks is met by the proofs of the functions themselves
 -- (docs/DEMANDS.md says how). Assumes nothing.
 use mathlib.Core.Path.{_≡_, _∙_, sym, ap}
@@ -51,6 +51,14 @@ use Rattle.exchanges.specs.Between.{Exchanged}
 use Rattle.exchanges.proofs.Carrying.{carries, one-carries}
 use Rattle.exchanges.proofs.Answered.{literal, turns, number, least, none}
 use Rattle.exchanges.proofs.Cases as Pairs
+use Rattle.inversion.specs.Table.{IsTable, IsSequence, recordLows}
+use Rattle.inversion.specs.Calls.{FromInversions, ToInversions}
+use Rattle.inversion.proofs.Tables.{table-array, record-lows, one-table, has-table}
+use Rattle.inversion.proofs.Sequences.{has-sequence, one-sequence}
+use Rattle.inversion.proofs.Calls.{table-back, sequence-back}
+use Rattle.inversion.proofs.Cases as Inversions
+use Rattle.sequences.specs.Listed.{Made, CompleteLows}
+use Rattle.sequences.proofs.Listed.{lows-cycles, sequences-of, one-list, complete-lows, length-sequences}
 use Rattle.cursor.specs.declared.Cursor.{Cursor}
 use Rattle.cursor.specs.Machine.{Machine, Call, show, Steps, rowOf, refusalOf, turn, answered, IsStep}
 use Rattle.cursor.specs.Walk.{called, walkRun, plainRun}
@@ -262,3 +270,50 @@ fixed-silent = no-number
 -- examples: fixed points and fixed entries of the array are two numbers
 pub fixed-cases : FixedPoints.Table
 fixed-cases = FixedPoints.table
+
+-- ---- Document 02, f): an array read as an inversion table: entry i is one more than the number of earlier elements of the sequence that are higher than the i-th
+
+-- every table, that is every array, has a sequence, and only one
+pub table-to-sequence : {n : ℕ} {p : List ℕ} → IsArray n p → (q : List ℕ) × IsSequence p q × ((r : List ℕ) → IsSequence p r → r ≡ q)
+table-to-sequence a = let (q, s) = has-sequence a in (q, s, λ r t. one-sequence t s)
+
+-- every sequence has a table, which is an array, and only one
+pub sequence-to-table : {n : ℕ} {q : List ℕ} → IsPermutation n q → (p : List ℕ) × IsArray n p × IsTable q p × ((r : List ℕ) → IsTable q r → r ≡ p)
+sequence-to-table {q = q} g = let (p, t) = has-table q in (p, table-array (g .size) t, t, λ r u. one-table u t)
+
+-- from table to sequence and back: what is written for the sequence of a table is that table, and it is not refused
+pub table-to-table : {p before after : List ℕ} → FromInversions p before 0 after
+    → {again table : List ℕ} {r : ℕ}
+    → length again ≡ length p
+    → ToInversions after again r table
+    → (r ≡ 0) × (table ≡ p)
+table-to-table = table-back
+
+-- from sequence to table and back: what is written for the table of a sequence is that sequence, and it is not refused
+pub sequence-to-sequence : {q before after : List ℕ} → ToInversions q before 0 after
+    → {again sequence : List ℕ} {r : ℕ}
+    → length again ≡ length q
+    → FromInversions after again r sequence
+    → (r ≡ 0) × (sequence ≡ q)
+sequence-to-sequence = sequence-back
+
+-- a sequence has as many record lows as its table p has i with pi = i
+pub lows-of-table : {q p : List ℕ} → IsTable q p → recordLows q ≡ tally (λ i. eqb (at p i) i) (positions (length p))
+unfolding fixed
+lows-of-table = record-lows
+
+-- so the array of a permutation of k cycles, read as a table, gives a sequence of k record lows
+pub lows-of-cycles : {n : ℕ} {s p q : List ℕ} → IsPermutation n s → IsArrayOf s p → IsSequence p q → recordLows q ≡ cycles s
+lows-of-cycles = lows-cycles
+
+-- for all n and k there is a list of the sequences made from the arrays of S(n,k), row by row, and only one
+pub one-list-of-sequences : (n k : ℕ) → (sequences : List Row) × Made (S n k) sequences × ((others : List Row) → Made (S n k) others → others ≡ sequences)
+one-list-of-sequences n k = let (sequences, m) = sequences-of n k in (sequences, m, λ others o. one-list n k o m)
+
+-- it holds every sequence of n with exactly k record lows exactly once, and nothing else, and so it has c(n,k) rows
+pub sequences-complete : (n k : ℕ) {sequences : List Row} → Made (S n k) sequences → CompleteLows n k sequences × (length sequences ≡ c n k)
+sequences-complete n k m = (complete-lows n k m, length-sequences n k m)
+
+-- examples
+pub inversion-cases : Inversions.Table
+inversion-cases = Inversions.table

@@ -63,6 +63,10 @@ fixed-cycles : {n : ℕ} {p : List ℕ} → IsArray n p → fixed p ≡ cycles (
 unfolding fixed
 fixed-cycles a = rw (a .size) (sym (cycles-product a))
 
+-- so the sequence made from the array of a permutation has as many record lows as the permutation has cycles
+pub lows-cycles : {n : ℕ} {s p q : List ℕ} → IsPermutation n s → IsArrayOf s p → IsSequence p q → recordLows q ≡ cycles s
+lows-cycles g a t = record-lows (t .table) ∙ fixed-cycles (array-of-n g a) ∙ ap cycles (a .equal)
+
 -- the row of S(n,k) that a sequence q is made from, with its array
 record From (n k : ℕ) (s q : Row) : Type 0 where
   array : List ℕ
@@ -86,7 +90,7 @@ module _ (n k : ℕ) {sequences : List Row} (m : Made (S n k) sequences) where
       let a = array-of-n (f .row .permutation) (f .is-array) in
       record {
         permutation = rw (a .size) at (f .sequence .permutation);
-        count = record-lows (f .sequence .table) ∙ fixed-cycles a ∙ ap cycles (f .is-array .equal) ∙ f .row .count;
+        count = lows-cycles (f .row .permutation) (f .is-array) (f .sequence) ∙ f .row .count;
       }
 
   -- every sequence of n with k record lows is made: from the permutation whose array is its table
