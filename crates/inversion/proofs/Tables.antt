@@ -41,10 +41,11 @@ low-entry : (q : List ℕ) (i : ℕ) → 1 ≤ i → recordLow q i ≡ eqb (1 + 
 unfolding recordLow
 low-entry q i h =
     let others : ℕ = tally (λ j. not (ltb (at q i) (at q j))) (positions (i - 1)) in
+    let low : recordLow q i ≡ not (ltb 0 others) = refl in
     cases
     (ltb 0 others)
-    (λ t. rw (t, ne-eqb (1 + higher q i) i (λ e. omega (arith, earlier q i, ltb-true 0 others t))))
-    (λ f. rw (f, eq-eqb (1 + higher q i) i (omega (arith, earlier q i, ltb-false 0 others f))))
+    (λ t. low ∙ ap not t ∙ sym (ne-eqb (1 + higher q i) i (λ e. omega (arith, earlier q i, ltb-true 0 others t))))
+    (λ f. low ∙ ap not f ∙ sym (eq-eqb (1 + higher q i) i (omega (arith, earlier q i, ltb-false 0 others f))))
 
 -- a table has as many fixed entries as its sequence has record lows
 pub record-lows : {q p : List ℕ} → IsTable q p → recordLows q ≡ fixed p

@@ -56,10 +56,10 @@ fn append(a: &[u8], out: &mut [u8], m: usize)
     ensures { λ r. ⌜ IsSequence (take (m + 1) (now (a .entry))) (take (m + 1) (now (out .exit))) ⌝ }
 {
     let v = (m + 2) as u8 - a[m];
-    let mut j = 0;
-    while j < m {
-        out[j] = raised(out[j], v);
-        j += 1;
+    let mut at = 0;
+    while at < m {
+        out[at] = raised(out[at], v);
+        at += 1;
     }
     out[m] = v;
 }
