@@ -5,7 +5,7 @@ use mathlib.Core.Path.{sym, _≡_, refl}
 use mathlib.Core.Bool.{Bool, true, false, not}
 use mathlib.Core.List.{List}
 use borrow.Author.Needs.{needs}
-use lib.ListN.{length, drop}
+use lib.ListN.{length, getD, drop}
 use Rattle.stirling.proofs.Refusals.{refuse-applies, refuse-passes}
 use Rattle.stirling.specs.Refusal.{within}
 use Rattle.perm.specs.Lists.{tally, positions}
@@ -36,12 +36,18 @@ add-in-range c = omega arith
 in-range-requires : tie.Need-in-range-requires Inv-loop μ-loop
 in-range-requires c κs = search needs
 
+-- what is asked of the entry at index i
+said : (c : tie.After-in-range Inv-loop μ-loop)
+    → c .in-range .result
+    ≡ within 1 (c .before .before .before .loop .i + 1) (getD (c .before .before .before .before .before .args .a .now) (c .before .before .before .loop .i) 0)
+said c = c .in-range .ensures
+
 returns : tie.Need-returns Inv-loop μ-loop
 returns c =
     let b = c .before .before .before .before in
     let a = b .before .before .args .a .now in
     let e : b .loop .i + 1 - 1 ≡ b .loop .i = omega arith in
-    let test : outside a (b .loop .i + 1) ≡ true = rw (e, ← (c .before .in-range .ensures)) (c .if1 .taken) in
+    let test : outside a (b .loop .i + 1) ≡ true = rw (e, ← said (c .before)) (c .if1 .taken) in
     sym (refuse-applies _ 6 (found-position (outside a) (length a) (b .loop .i) (b .loop .inv) (omega arith) test))
 
 add-i : tie.Need-add-i Inv-loop μ-loop
@@ -55,7 +61,7 @@ loop-again c =
     let b = c .before .before .before .before in
     let a = b .before .before .args .a .now in
     let e : b .loop .i + 1 - 1 ≡ b .loop .i = omega arith in
-    let test : outside a (b .loop .i + 1) ≡ false = rw (e, ← (c .before .in-range .ensures)) (c .if1 .left) in
+    let test : outside a (b .loop .i + 1) ≡ false = rw (e, ← said (c .before)) (c .if1 .left) in
     passed-position (outside a) (length a) (b .loop .i) (b .loop .inv) (omega arith) test
 
 returns-2 : tie.Need-returns-2 Inv-loop μ-loop
