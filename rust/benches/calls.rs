@@ -24,12 +24,12 @@ fn nanoseconds(mut call: impl FnMut(usize)) -> f64 {
 }
 
 fn line(name: &str, n: u64, ours: f64, theirs: f64) {
-    println!("{name:<14} {n:>2} {ours:>12.1} {theirs:>12.1} {:>7.2}", ours / theirs);
+    println!("{name:<15} {n:>2} {ours:>12.1} {theirs:>12.1} {:>7.2}", ours / theirs);
 }
 
 fn main() {
     let reference = Reference::new();
-    println!("{:<14} {:>2} {:>12} {:>12} {:>7}", "call", "n", "library ns", "Rust ns", "ratio");
+    println!("{:<15} {:>2} {:>12} {:>12} {:>7}", "call", "n", "library ns", "Rust ns", "ratio");
     for n in [5u64, 10, 15, 20] {
         let k = n / 3 + 1;
         let size = n as usize;
@@ -85,5 +85,13 @@ fn main() {
         let ours = nanoseconds(|i| drop(black_box(osierdrum::from_array(black_box(&arrays[i]), &mut out))));
         let theirs = nanoseconds(|i| drop(black_box(reference.from_array(black_box(&arrays[i]), &mut out))));
         line("from_array", n, ours, theirs);
+
+        let ours = nanoseconds(|i| drop(black_box(osierdrum::to_inversions(black_box(&made[i]), &mut out))));
+        let theirs = nanoseconds(|i| drop(black_box(reference.to_inversions(black_box(&made[i]), &mut out))));
+        line("to_inversions", n, ours, theirs);
+
+        let ours = nanoseconds(|i| drop(black_box(osierdrum::from_inversions(black_box(&arrays[i]), &mut out))));
+        let theirs = nanoseconds(|i| drop(black_box(reference.from_inversions(black_box(&arrays[i]), &mut out))));
+        line("from_inversions", n, ours, theirs);
     }
 }

@@ -1,4 +1,4 @@
--- What the two calls add up to: where the checks leave off, and from table to sequence and back. Assumes nothing.
+-- What the two calls give where they are refused, and what they add up to: from table to sequence and back. Assumes nothing.
 use mathlib.Core.Path.{_≡_, refl, sym, _∙_}
 use Prim.Native.Nat.{ℕ}
 use mathlib.Core.List.{List}
@@ -7,7 +7,7 @@ use Rattle.stirling.specs.Refusal.{_then_}
 use Rattle.stirling.specs.Count.{checkSize}
 use Rattle.stirling.proofs.Refusals.{then-passed}
 use Rattle.perm.specs.Permutation.{IsPermutation}
-use Rattle.perm.specs.Checks.{checkLent, checkValues, checkTwice, checkEntries, checkPermutation, checkToArray}
+use Rattle.perm.specs.Checks.{checkLent, checkValues, checkTwice, checkEntries, checkPermutation, checkFromArray, checkToArray}
 use Rattle.perm.proofs.Checked.{checked, passes-values, passes-twice, passes-array}
 use Rattle.perm.proofs.Refused.{lent-passes}
 use Rattle.inversion.specs.Table.{IsTable, IsSequence}
@@ -20,6 +20,13 @@ pub contents-next : (s : List ℕ) (size : ℕ) {r : ℕ} → checkSize (length 
 contents-next s size e f =
     let both = then-passed (checkSize (length s)) (checkLent (length s) size) e in
     rw (both .0, both .1) (rw (both .0) at f)
+
+-- a refused call writes nothing
+pub table-refused : {p before : List ℕ} {r : ℕ} → r ≡ checkFromArray p (length before) → (r ≡ 0 → ⊥) → FromInversions p before r before
+table-refused e d = record { refusal = e; written = λ z. absurd (d z); kept = λ _. refl }
+
+pub sequence-refused : {q before : List ℕ} {r : ℕ} → r ≡ checkToArray q (length before) → (r ≡ 0 → ⊥) → ToInversions q before r before
+sequence-refused e d = record { refusal = e; written = λ z. absurd (d z); kept = λ _. refl }
 
 -- a slice of n bytes is lent for n
 lent : (n : ℕ) {size : ℕ} → size ≡ n → checkLent n size ≡ 0

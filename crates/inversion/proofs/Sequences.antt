@@ -1,5 +1,5 @@
 -- Every inversion table has one sequence and only one: entry after entry, each tells the element that comes next. Assumes nothing.
-use mathlib.Core.Path.{_≡_, refl, sym, ap, _∙_}
+use mathlib.Core.Path.{_≡_, refl, sym, _∙_}
 use Prim.Native.Nat.{ℕ, zero, suc, _+_, _-_, _≤_}
 use native.Mathlib.Omega.{arith}
 use native.Mathlib.Decide.{ℕ-discrete}
@@ -9,7 +9,7 @@ use Rattle.perm.specs.Permutation.{IsPermutation, at}
 use Rattle.perm.specs.Array.{IsArray}
 use Rattle.perm.proofs.Split.{at-snoc-low, at-snoc-top}
 use Rattle.perm.proofs.Arrays.{Last, fixed, moved, last}
-use Rattle.inversion.specs.Table.{higher, IsTable, IsSequence}
+use Rattle.inversion.specs.Table.{higher, IsSequence}
 use Rattle.inversion.proofs.Appended.{appended, higher-earlier, higher-last, appended-permutation, Appended, one-more, is-appended}
 
 -- the sequence of no entries

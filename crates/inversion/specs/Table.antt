@@ -1,7 +1,7 @@
 -- Document 02, f): an array read as the inversion table of a sequence, and the record lows of a sequence. A departure sequence of n is a permutation of n, the values 1 to
 -- n each once (`IsPermutation`). These are definitions; nothing is assumed.
 use mathlib.Core.Path.{_≡_}
-use Prim.Native.Nat.{ℕ, suc, _+_, _-_, _≤_}
+use Prim.Native.Nat.{ℕ, _+_, _-_, _≤_}
 use mathlib.Core.Bool.{Bool, not}
 use mathlib.Core.List.{List}
 use lib.Dec.{ltb}

@@ -13,7 +13,7 @@ use Rattle.perm.specs.Permutation.{at}
 use Rattle.perm.proofs.Tally.{tally-positions}
 use Rattle.perm.proofs.Values.{at-suc}
 use Rattle.inversion.specs.Table.{recordLow, recordLows}
-use Rattle.inversion.proofs.Counted.{CountedTo, counted-none, counted-hit, counted-miss}
+use Rattle.inversion.proofs.Counted.{CountedTo}
 
 -- how many of the first i elements are not above x
 pub reached : List ℕ → ℕ → ℕ → ℕ

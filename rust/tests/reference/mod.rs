@@ -374,12 +374,19 @@ impl Reference {
         Ok(())
     }
 
+    /// The values n down to 1, in front of zeros.
+    fn falling(n: usize) -> [u8; MOST] {
+        std::array::from_fn(|i| n.saturating_sub(i) as u8)
+    }
+
     /// The sequence of an inversion table, from its end: entry i tells which of the values that are left, from the highest down, stands at i.
     pub fn from_inversions(&self, a: &[u8], out: &mut [u8]) -> Result<(), u8> {
         Self::entries(a, out)?;
-        let mut left: Vec<u8> = (1..=a.len() as u8).rev().collect();
+        let mut left = Self::falling(a.len());
         for (i, &p) in a.iter().enumerate().rev() {
-            out[i] = left.remove(usize::from(p) - 1);
+            let at = usize::from(p) - 1;
+            out[i] = left[at];
+            left.copy_within(at + 1..=i, at);
         }
         Ok(())
     }
@@ -393,10 +400,10 @@ impl Reference {
             return Err(5);
         }
         Self::permutation(s)?;
-        let mut left: Vec<u8> = (1..=s.len() as u8).rev().collect();
+        let mut left = Self::falling(s.len());
         for (i, value) in s.iter().enumerate().rev() {
             let at = left.iter().position(|other| other == value).expect("each value once");
-            left.remove(at);
+            left.copy_within(at + 1..=i, at);
             out[i] = at as u8 + 1;
         }
         Ok(())

@@ -4,6 +4,7 @@ use borrow.Author.Needs.{needs}
 use Rattle.stirling.proofs.Refusals.{then-stops}
 use Rattle.perm.proofs.Checked.{checked-array}
 use Rattle.perm.proofs.Refused.{next, lengths-passed}
+use Rattle.inversion.proofs.Calls.{table-refused}
 use Rattle.inversion.proofs.from_inversions.Statement.{statement}
 use Rattle.inversion.proofs.from_inversions.Tie as tie
 
@@ -11,12 +12,7 @@ check-lengths-requires : tie.Need-check-lengths-requires
 check-lengths-requires c κs = search needs
 
 returns : tie.Need-returns
-returns c =
-    record {
-      refusal = then-stops _ _ _ (c .before .check-lengths .ensures) (c .if1 .taken);
-      written = λ e. absurd (c .if1 .taken e);
-      kept = λ d. refl;
-    }
+returns c = table-refused (then-stops _ _ _ (c .before .check-lengths .ensures) (c .if1 .taken)) (c .if1 .taken)
 
 check-entries-requires : tie.Need-check-entries-requires
 check-entries-requires c κs = search needs
@@ -25,11 +21,7 @@ returns-2 : tie.Need-returns-2
 returns-2 c =
     let b = c .before .before in
     let lengths = sym (b .before .check-lengths .ensures) ∙ b .if1 .left in
-    record {
-      refusal = next _ _ lengths (c .before .check-entries .ensures);
-      written = λ e. absurd (c .if2 .taken e);
-      kept = λ d. refl;
-    }
+    table-refused (next _ _ lengths (c .before .check-entries .ensures)) (c .if2 .taken)
 
 write-sequence-requires : tie.Need-write-sequence-requires
 write-sequence-requires c κs =

@@ -4,7 +4,7 @@ use lib.ListN.{length}
 use borrow.Author.Needs.{needs}
 use Rattle.stirling.proofs.Refusals.{then-stops}
 use Rattle.perm.proofs.Refused.{lengths-passed}
-use Rattle.inversion.proofs.Calls.{contents-next}
+use Rattle.inversion.proofs.Calls.{contents-next, sequence-refused}
 use Rattle.inversion.proofs.to_inversions.Statement.{statement}
 use Rattle.inversion.proofs.to_inversions.Tie as tie
 
@@ -14,11 +14,7 @@ check-lengths-requires c κs = search needs
 returns : tie.Need-returns
 returns c =
     let taken = c .if1 .taken in
-    record {
-      refusal = then-stops _ _ _ (then-stops _ _ _ (c .before .check-lengths .ensures) taken) taken;
-      written = λ e. absurd (taken e);
-      kept = λ d. refl;
-    }
+    sequence-refused (then-stops _ _ _ (then-stops _ _ _ (c .before .check-lengths .ensures) taken) taken) taken
 
 check-permutation-requires : tie.Need-check-permutation-requires
 check-permutation-requires c κs = search needs
@@ -28,11 +24,7 @@ returns-2 c =
     let b = c .before .before in
     let args = b .before .before .before .before .args in
     let lengths = sym (b .before .check-lengths .ensures) ∙ b .if1 .left in
-    record {
-      refusal = contents-next (args .q .now) (length (args .out .now)) lengths (c .before .check-permutation .ensures);
-      written = λ e. absurd (c .if2 .taken e);
-      kept = λ d. refl;
-    }
+    sequence-refused (contents-next (args .q .now) (length (args .out .now)) lengths (c .before .check-permutation .ensures)) (c .if2 .taken)
 
 write-table-requires : tie.Need-write-table-requires
 write-table-requires c κs = let b = c .before .before .before in lengths-passed _ _ (sym (b .before .check-lengths .ensures) ∙ b .if1 .left)

@@ -1,6 +1,5 @@
 -- `tables::print_table` is safe: the parts that are lent are within their arrays. Assumes nothing.
 use mathlib.Core.Path.{sym}
-use native.Mathlib.Omega.{arith}
 use borrow.Author.Needs.{needs}
 use lib.Seq.{length-take-le}
 use Rattle.tables.proofs.print_table.Statement.{statement}

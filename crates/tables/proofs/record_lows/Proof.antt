@@ -2,7 +2,6 @@
 use Prim.Native.Nat.{_+_, _-_, _≤_, _<_}
 use native.Mathlib.Omega.{arith}
 use mathlib.Core.Logic.{⊎-elim}
-use mathlib.Core.Path.{_≡_}
 use lib.ListN.{length, getD}
 use Rattle.inversion.specs.Table.{recordLow}
 use Rattle.inversion.proofs.Counted.{CountedTo, counted-none, counted-hit, counted-miss}
