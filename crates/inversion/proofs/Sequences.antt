@@ -8,15 +8,11 @@ use lib.ListN.{length, length-append}
 use Rattle.perm.specs.Permutation.{IsPermutation, at}
 use Rattle.perm.specs.Array.{IsArray}
 use Rattle.perm.proofs.Split.{at-snoc-low, at-snoc-top}
-use Rattle.perm.proofs.Arrays.{Last, fixed, moved, last}
+use Rattle.perm.proofs.Arrays.{Last, fixed, moved, last, empty}
 use Rattle.inversion.specs.Table.{higher, IsSequence}
 use Rattle.inversion.proofs.Appended.{appended, higher-earlier, higher-last, appended-permutation, Appended, one-more, is-appended}
 
--- the sequence of no entries
-none : (q : List ℕ) → length q ≡ 0 → q ≡ []
-none [] e = refl
-none (x ∷ q) e = absurd (omega arith)
-
+-- the table of no entries
 pub sequence-none : IsSequence [] []
 sequence-none = record {
   permutation = record { size = refl; once = λ v h k. absurd (omega arith) };
@@ -64,7 +60,7 @@ has-last {n} ih (fixed p a) = let (q, s) = ih p a in (appended (n + 2 - suc n) q
 has-last {n} ih (moved i p h k a) = let (q, s) = ih p a in (appended (n + 2 - i) q, sequence-next i h (omega arith) s (a .size))
 
 pub has-sequence : {n : ℕ} {p : List ℕ} → IsArray n p → (q : List ℕ) × IsSequence p q
-has-sequence {n = zero} {p} a = ([], rw (none p (a .size)) sequence-none)
+has-sequence {n = zero} {p} a = ([], rw (empty p (a .size)) sequence-none)
 has-sequence {n = suc n} a = has-last (λ r b. has-sequence b) (last a)
 
 -- two permutations of n that have as many higher elements before each are one
@@ -82,7 +78,7 @@ alike-appended {m} ih (one-more v q h k a) (one-more w r l u b) e =
     rw (same, rest)
 
 alike : (n : ℕ) (q r : List ℕ) → IsPermutation n q → IsPermutation n r → Alike n q r → q ≡ r
-alike zero q r a b e = none q (a .size) ∙ sym (none r (b .size))
+alike zero q r a b e = empty q (a .size) ∙ sym (empty r (b .size))
 alike (suc n) q r a b e = alike-appended (alike n) (is-appended a) (is-appended b) e
 
 -- no table has two sequences

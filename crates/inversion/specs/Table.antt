@@ -23,7 +23,7 @@ pub record IsSequence (p q : List ℕ) : Type 0 where
   pub permutation : IsPermutation (length p) q
   pub table : IsTable q p
 
--- document 02's *record low*: the i-th element is below all before it; no element before it is not above it
+-- document 02's *record low*: the i-th element is below all before it: among those there is none that it is not below
 unfoldable pub recordLow : List ℕ → ℕ → Bool
 recordLow q i = not (some (λ j. not (ltb (at q i) (at q j))) (positions (i - 1)))
 

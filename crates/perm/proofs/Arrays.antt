@@ -128,7 +128,7 @@ product-permutation {n = zero} {p} a = record { size = length-product p ∙ a .s
 product-permutation {n = suc n} a = permutation-last (λ q b. product-permutation b) (last a)
 
 -- a list of no entries
-empty : (s : List ℕ) → length s ≡ 0 → s ≡ []
+pub empty : (s : List ℕ) → length s ≡ 0 → s ≡ []
 empty [] e = refl
 empty (x ∷ s) e = absurd (omega arith)
 
