@@ -4,6 +4,7 @@ use Prim.Native.Nat.{ℕ, _+_}
 use mathlib.Core.List.{List, [], _∷_, map}
 use lib.ListN.{length}
 use Rattle.perm.specs.Lists.{tally, range, positions}
+use Rattle.perm.specs.Checks.{checkFromArray, checkToArray}
 use Rattle.inversion.specs.Table.{higher, recordLow, recordLows}
 
 -- the entries of the table of a sequence
@@ -25,9 +26,11 @@ pub record Table : Type 0 where
   pub lows-321 : recordLows (3 ∷ 2 ∷ 1 ∷ []) ≡ 3
   pub entries-123 : entries (1 ∷ 2 ∷ 3 ∷ []) ≡ 1 ∷ 1 ∷ 1 ∷ []
   pub lows-123 : recordLows (1 ∷ 2 ∷ 3 ∷ []) ≡ 1
-  -- the sequence of nothing
+  -- the sequence of nothing has the table of nothing, and neither is refused
   pub entries-nothing : entries [] ≡ []
   pub lows-nothing : recordLows [] ≡ 0
+  pub table-of-nothing : checkFromArray [] 0 ≡ 0
+  pub sequence-of-nothing : checkToArray [] 0 ≡ 0
 
 pub table : Table
 unfolding tally range higher recordLow recordLows
@@ -45,4 +48,6 @@ table =
       lows-123 = refl;
       entries-nothing = refl;
       lows-nothing = refl;
+      table-of-nothing = refl;
+      sequence-of-nothing = refl;
     }
