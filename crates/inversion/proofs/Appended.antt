@@ -29,15 +29,18 @@ raise v x = cond (ltb x v) x (suc x)
 by-raise : (P : ℕ → Type 0) (v x : ℕ) → (x < v → P x) → (v ≤ x → P (suc x)) → P (raise v x)
 by-raise P v x low high = cases (ltb x v) (λ t. rw t (low (ltb-true x v t))) (λ f. rw f (high (ltb-false x v f)))
 
--- two elements keep their order
-raise-less : (v x y : ℕ) → x < y → raise v x < raise v y
-raise-less v x y l =
+-- two elements keep their order, and what lies between them
+raise-keeps : (v d x y : ℕ) → d + x ≤ y → d + raise v x ≤ raise v y
+raise-keeps v d x y l =
     by-raise
-    (λ a. a < raise v y)
+    (λ a. d + a ≤ raise v y)
     v
     x
-    (λ h. by-raise (λ b. x < b) v y (λ k. omega arith) (λ k. omega arith))
-    (λ h. by-raise (λ b. suc x < b) v y (λ k. omega arith) (λ k. omega arith))
+    (λ h. by-raise (λ b. d + x ≤ b) v y (λ k. omega arith) (λ k. omega arith))
+    (λ h. by-raise (λ b. d + suc x ≤ b) v y (λ k. omega arith) (λ k. omega arith))
+
+raise-less : (v x y : ℕ) → x < y → raise v x < raise v y
+raise-less v x y l = omega (arith, raise-keeps v 1 x y (omega arith))
 
 raise-one : (v x y : ℕ) → raise v x ≡ raise v y → x ≡ y
 raise-one v x y e =
@@ -50,17 +53,7 @@ raise-order v x y =
     cases
     (ltb x y)
     (λ t. lt-ltb (raise v x) (raise v y) (raise-less v x y (ltb-true x y t)) ∙ sym t)
-    (λ f. le-ltb (raise v x) (raise v y) (not-less (ltb-false x y f)) ∙ sym f)
-  where
-    not-less : y ≤ x → raise v y ≤ raise v x
-    not-less h =
-        let same : x ≡ y → raise v x ≡ raise v y = ap (raise v) in
-        let above : y < x → raise v y < raise v x = raise-less v y x in
-        by-order same above (ℕ-discrete x y)
-      where
-        by-order : (x ≡ y → raise v x ≡ raise v y) → (y < x → raise v y < raise v x) → Dec (x ≡ y) → raise v y ≤ raise v x
-        by-order same above (yes e) = omega (arith, same e)
-        by-order same above (no d) = omega (arith, above (omega arith))
+    (λ f. le-ltb (raise v x) (raise v y) (omega (arith, raise-keeps v 0 y x (omega (arith, ltb-false x y f)))) ∙ sym f)
 
 -- v comes free
 raise-apart : (v x : ℕ) → raise v x ≡ v → ⊥
@@ -70,7 +63,7 @@ raise-apart v x = by-raise (λ a. a ≡ v → ⊥) v x (λ h e. omega arith) (λ
 raise-above : (v x : ℕ) → ltb v (raise v x) ≡ not (ltb x v)
 raise-above v x = cases (ltb x v) (λ t. rw t (le-ltb v x (omega (arith, ltb-true x v t)))) (λ f. rw f (lt-ltb v (suc x) (omega (arith, ltb-false x v f))))
 
--- undone
+-- undone, where an element is not v
 lower : ℕ → ℕ → ℕ
 lower v x = cond (ltb v x) (x - 1) x
 
