@@ -1,4 +1,3 @@
-pub mod Counted
 pub mod Tables
 pub mod Appended
 pub mod Sequences

@@ -13,10 +13,10 @@ use lib.ListN.{length, getD, take, drop, set, length-set}
 use lib.Seq.{getD-set-same, getD-set-other, getD-drop, drop-set-lt, drop-drop, take-suc, take-suc-set, take-all, take-length, length-take-le, getD-take}
 use Rattle.perm.specs.Permutation.{at}
 use Rattle.perm.specs.Array.{IsArray}
+use Rattle.perm.proofs.Counted.{CountedTo, counted-hit, counted-miss}
 use Rattle.perm.proofs.Values.{at-suc}
 use Rattle.perm.proofs.Steps.{entry-bound, value-bound}
 use Rattle.inversion.specs.Table.{higher, IsTable, IsSequence}
-use Rattle.inversion.proofs.Counted.{CountedTo, counted-hit, counted-miss}
 use Rattle.inversion.proofs.Tables.{higher-suc}
 use Rattle.inversion.proofs.Appended.{raise, appended}
 use Rattle.inversion.proofs.Sequences.{sequence-none, sequence-next}

@@ -11,9 +11,9 @@ use lib.ListN.{length, getD}
 use Rattle.perm.specs.Lists.{one, tally, range, positions}
 use Rattle.perm.specs.Permutation.{at}
 use Rattle.perm.proofs.Tally.{tally-positions}
+use Rattle.perm.proofs.Counted.{CountedTo}
 use Rattle.perm.proofs.Values.{at-suc}
 use Rattle.inversion.specs.Table.{recordLow, recordLows}
-use Rattle.inversion.proofs.Counted.{CountedTo}
 
 -- how many of the first i elements are not above x
 pub reached : List ℕ → ℕ → ℕ → ℕ

@@ -4,7 +4,7 @@ use native.Mathlib.Omega.{arith}
 use mathlib.Core.Logic.{⊎-elim}
 use mathlib.Core.Path.{_≡_}
 use lib.ListN.{getD}
-use Rattle.inversion.proofs.Counted.{CountedTo, counted-none}
+use Rattle.perm.proofs.Counted.{CountedTo, counted-none}
 use Rattle.inversion.proofs.Steps.{above, above-hit, above-miss, above-all}
 use Rattle.inversion.proofs.higher_before.Statement.{statement}
 use Rattle.inversion.proofs.higher_before.Tie as tie

@@ -69,8 +69,8 @@ loop-again c =
       rw (add-one, one-more, b .loop .inv .2, take-suc s i 0 (omega arith)),
       indexed-step i (c .wide2 .result) (pre .0) (pre .2) (omega arith) (c .wide2 .ensures) (b .loop .inv .3),
       ⊎-elim
-          (λ w. let here : getD s i 0 ≡ i + 1 = sym value ∙ w .0 .taken in rw (w .1) (fixed-here here (b .loop .inv .4)))
-          (λ w. rw (w .1) (fixed-other (λ e. w .0 .left (value ∙ e)) (b .loop .inv .4)))
+          (λ w. let here : getD s i 0 ≡ i + 1 = sym value ∙ w .0 .taken in rw (w .1) (fixed-here s here (b .loop .inv .4)))
+          (λ w. rw (w .1) (fixed-other s (λ e. w .0 .left (value ∙ e)) (b .loop .inv .4)))
           (c .before .if1 .came),
     )
 
@@ -83,7 +83,7 @@ returns c =
     let s = b .before .before .before .args .s .now in
     let x = b .loop .inv .3 in (
       (sym (take-all (b .loop .i) (b .loop .out) (omega arith)) ∙ b .loop .inv .2 ∙ take-all (b .loop .i) s (omega arith), x .size, λ j h. x .index-of j (omega arith)),
-      fixed-all (omega arith) (b .loop .inv .4),
+      fixed-all s (omega arith) (b .loop .inv .4),
     )
 
 pub copy-indexed-spec : {M : Type 1} → statement M

@@ -43,13 +43,13 @@ loop-again c =
     let a = c .before .before .before .before .args .a .now in (
       omega arith,
       ⊎-elim
-          (λ w. let here : getD a (h .i) 0 ≡ h .i + 1 = w .0 .taken in rw (w .1) (fixed-here here (h .inv .1)))
-          (λ w. rw (w .1) (fixed-other (w .0 .left) (h .inv .1)))
+          (λ w. let here : getD a (h .i) 0 ≡ h .i + 1 = w .0 .taken in rw (w .1) (fixed-here a here (h .inv .1)))
+          (λ w. rw (w .1) (fixed-other a (w .0 .left) (h .inv .1)))
           (c .if1 .came),
     )
 
 returns : tie.Need-returns Inv-loop μ-loop
-returns c = fixed-all (omega arith) (c .before .loop .inv .1)
+returns c = fixed-all _ (omega arith) (c .before .loop .inv .1)
 
 pub fixed-entries-spec : {M : Type 1} → statement M
 fixed-entries-spec =

@@ -4,7 +4,7 @@ use native.Mathlib.Omega.{arith}
 use mathlib.Core.Logic.{⊎-elim}
 use lib.ListN.{length, getD}
 use Rattle.inversion.specs.Table.{recordLow}
-use Rattle.inversion.proofs.Counted.{CountedTo, counted-none, counted-hit, counted-miss}
+use Rattle.perm.proofs.Counted.{CountedTo, counted-none, counted-hit, counted-miss}
 use Rattle.tables.proofs.Lows.{Lowest, lowest-none, lowest-lower, lowest-same, low-hit, low-miss, lows-all}
 use Rattle.tables.proofs.record_lows.Statement.{statement}
 use Rattle.tables.proofs.record_lows.Tie as tie
