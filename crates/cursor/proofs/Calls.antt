@@ -3,8 +3,7 @@
 use mathlib.Core.Path.{_≡_, refl}
 use mathlib.Core.Bool.{true}
 use mathlib.Core.List.{List, [], _∷_}
-use Prim.Native.Nat.{ℕ, zero, suc, _+_, _<_}
-use native.Mathlib.Omega.{arith}
+use Prim.Native.Nat.{ℕ, zero, suc, _<_}
 use lib.Dec.{leb}
 use borrow.Author.Tests.{lt-leb, leb-false}
 use Rattle.stirling.specs.Refusal.{unless}
@@ -14,6 +13,7 @@ use Rattle.stirling.proofs.Counts.{cycles-passes, cycles-passed, place-passed}
 use Rattle.gray.proofs.Same.{same-refl}
 use Rattle.cursor.specs.Machine.{Machine, Call, forward, back, jump, show, observe, refusalOf, destination, moved, turn, turned, machineRun}
 use Rattle.cursor.specs.Walk.{sound, called, start, opened, callsRun, walkRun, plainRun}
+use Rattle.cursor.proofs.Ring.{after-below, before-below}
 
 -- a machine on a place of a list
 pub record OnPlace (m : Machine) : Type 0 where
@@ -46,8 +46,8 @@ called-observe m call on = rw (sound-observe m on)
 
 -- a call that is not refused leads to a place of the list
 pub destination-below : (m : Machine) (call : Call) → OnPlace m → refusalOf m call ≡ 0 → destination m call < c (m .n) (m .k)
-destination-below m forward on e = leb-false (c (m .n) (m .k)) (m .place + 1) (refuse-passed (leb (c (m .n) (m .k)) (m .place + 1)) 8 e)
-destination-below m back on e = omega (arith, on .below)
+destination-below m forward on e = after-below (c (m .n) (m .k)) (m .place) (on .below)
+destination-below m back on e = before-below (c (m .n) (m .k)) (m .place) (on .below)
 destination-below m show on e = on .below
 destination-below m (jump r) on e = leb-false (c (m .n) (m .k)) r (refuse-passed (leb (c (m .n) (m .k)) r) 2 e)
 

@@ -6,10 +6,13 @@ use borrow.Author.Tests.{not-true, not-false}
 use Rattle.stirling.specs.Count.{c, lookupOf}
 use Rattle.stirling.proofs.Counts.{cycles-passed, looked-up, fits}
 use Rattle.perm.specs.Permutation.{fixed}
-use Rattle.cursor.specs.Machine.{Call, show, observe, rowOf, refusalOf, destination, moved, turn, bare, given, answered}
+use Rattle.gray.specs.Listing.{Near}
+use Rattle.cursor.specs.Machine.{Machine, Call, show, Steps, onward, backward, observe, rowOf, refusalOf, destination, moved, turn, bare, stepped, given, answered}
 use Rattle.cursor.specs.Walk.{machineOf, sound, called}
 use Rattle.cursor.specs.declared.Cursor.{Cursor}
 use Rattle.cursor.specs.declared.Answer.{Answer}
+use Rattle.cursor.proofs.Calls.{destination-below}
+use Rattle.cursor.proofs.Steps.{turn-near}
 use Rattle.cursor.proofs.Sound.{sound-on, sound-shows}
 
 -- what the test `!is_sound(w)` says: taken, the record fails check 8
@@ -19,6 +22,11 @@ fails {found} e t = sym e ∙ not-true found t
 -- left, it passes
 pub passes : {found right : Bool} → found ≡ right → not found ≡ false → right ≡ true
 passes {found} e t = sym e ∙ not-false found t
+
+-- what forward and back answer where they are not refused
+given-step : (m : Machine) {call : Call} → Steps call → given m call ≡ stepped (rowOf m) (rowOf (moved m (destination m call)))
+given-step m onward = refl
+given-step m backward = refl
 
 module _ (w : Cursor) (call : Call) where
   -- a record that fails check 8 comes back as it was
@@ -36,6 +44,20 @@ module _ (w : Cursor) (call : Call) where
       → called w call ≡ record { cursor = observe (moved (machineOf w) (destination (machineOf w) call)); answer = given (machineOf w) call }
   unfolding called turn answered
   called-moves e f = rw (e, f)
+
+-- a forward or back that is not refused
+module _ (w : Cursor) (call : Call) (kind : Steps call) (e : sound w ≡ true) (f : refusalOf (machineOf w) call ≡ 0) (place : ℕ)
+    (g : place ≡ destination (machineOf w) call) where
+  -- leads to a place of the list, where the row is near
+  pub step-asks : (sound w ≡ true) × (place < c (w .n) (w .k)) × Near (w .n) (rowOf (machineOf w)) (rowOf (moved (machineOf w) place))
+  step-asks =
+      let on = sound-on w e in
+      rw g (e, destination-below (machineOf w) call on f, turn-near (machineOf w) call on kind f)
+
+  -- and gives the record there, with the step between the rows
+  pub step-gives : record { cursor = observe (moved (machineOf w) place); answer = stepped (rowOf (machineOf w)) (rowOf (moved (machineOf w) place)) }
+      ≡ called w call
+  step-gives = rw (g, called-moves w call e f, given-step (machineOf w) kind)
 
 -- place, permutation and array as a record holds them, a number of fixed points, and zeros for the rest
 abbrev pub held : Cursor → ℕ → Answer

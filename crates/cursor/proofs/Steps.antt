@@ -5,6 +5,7 @@ use mathlib.Core.List.{[], _∷_}
 use Prim.Native.Nat.{ℕ, zero, suc, _+_, _-_, _≤_, _<_}
 use native.Mathlib.Omega.{arith}
 use native.Mathlib.Numerals.{add-one}
+use native.Mathlib.Decide.{ℕ-discrete}
 use lib.Dec.{eqb}
 use lib.ListN.{length, getD}
 use borrow.Author.Tests.{eq-eqb, ne-eqb, eqb-false}
@@ -13,11 +14,12 @@ use Rattle.stirling.proofs.Refusals.{refuse-passed}
 use Rattle.perm.specs.Permutation.{IsPermutation, at, rotate}
 use Rattle.perm.proofs.Values.{injective, at-suc}
 use Rattle.perm.proofs.ArrayOf.{position-at}
-use Rattle.gray.specs.Order.{Row}
-use Rattle.gray.specs.Listing.{Positions, Near}
+use Rattle.gray.specs.Order.{Row, S}
+use Rattle.gray.specs.Listing.{rowAt, Positions, Near}
 use Rattle.gray.proofs.Once.{length-S, complete}
-use Rattle.gray.proofs.Neighbours.{neighbours}
-use Rattle.cursor.specs.Machine.{Machine, Call, forward, back, Steps, onward, backward, rowOf, refusalOf, destination, moved, turn, firstFrom, stepI, stepJ, stepL, IsStep, answered}
+use Rattle.gray.proofs.Neighbours.{neighbours, closed}
+use Rattle.cursor.specs.Machine.{Machine, Call, forward, back, Steps, onward, backward, rowOf, placeAfter, refusalOf, destination, moved, turn, firstFrom, stepI, stepJ, stepL, IsStep, answered}
+use Rattle.cursor.proofs.Ring.{after-last, after-other, after-before}
 use Rattle.cursor.proofs.Calls.{OnPlace, on-moved, destination-below}
 use Rattle.cursor.proofs.Rotate.{length-rotate, at-rotate-i, at-rotate-j, at-rotate-other, near-back, from-smallest}
 
@@ -65,18 +67,36 @@ near-step {n} {s} {t} p near =
 pub row-permutation : (m : Machine) → OnPlace m → IsPermutation (m .n) (rowOf m)
 row-permutation m on = complete (m .n) (m .k) .sound (m .place) (omega (arith, on .below, length-S (m .n) (m .k))) .permutation
 
--- a row is near the one at the next place
-next-near : (m : Machine) (place : ℕ) → place + 1 < c (m .n) (m .k) → Near (m .n) (rowOf (moved m place)) (rowOf (moved m (place + 1)))
-next-near m place h = rw add-one (neighbours (m .n) (m .k) place (omega (arith, length-S (m .n) (m .k))))
+-- a list of two rows or more is one that forward and back do not refuse
+pub step-serves : (m : Machine) (call : Call) → Steps call → (c (m .n) (m .k) ≡ 1 → ⊥) → refusalOf m call ≡ 0
+step-serves m _ onward d = rw (ne-eqb (c (m .n) (m .k)) 1 d)
+step-serves m _ backward d = rw (ne-eqb (c (m .n) (m .k)) 1 d)
+
+-- and only such a one
+pub step-served : (m : Machine) (call : Call) → Steps call → refusalOf m call ≡ 0 → c (m .n) (m .k) ≡ 1 → ⊥
+step-served m _ onward e = eqb-false (c (m .n) (m .k)) 1 (refuse-passed (eqb (c (m .n) (m .k)) 1) 8 e)
+step-served m _ backward e = eqb-false (c (m .n) (m .k)) 1 (refuse-passed (eqb (c (m .n) (m .k)) 1) 9 e)
+
+-- a row of a list of two or more is near the one at the place after, the last one near the first
+after-near : (n k place : ℕ) → place < c n k → (c n k ≡ 1 → ⊥) → Near n (rowAt (S n k) place) (rowAt (S n k) (placeAfter (c n k) place))
+after-near n k place h d = go (ℕ-discrete (place + 1) (c n k))
+  where
+    go : Dec (place + 1 ≡ c n k) → Near n (rowAt (S n k) place) (rowAt (S n k) (placeAfter (c n k) place))
+    go (yes e) =
+        let last : length (S n k) - 1 ≡ place = omega (arith, length-S n k) in
+        rw (after-last (c n k) place e) (rw last at (closed n k (omega (arith, length-S n k))))
+    go (no f) = rw (after-other (c n k) place f, add-one) (neighbours n k place (omega (arith, length-S n k)))
 
 -- the row after a forward or back that is not refused is near the row before
 pub turn-near : (m : Machine) (call : Call) → OnPlace m → Steps call → refusalOf m call ≡ 0 → Near (m .n) (rowOf m) (rowOf (moved m (destination m call)))
-turn-near m _ on onward e = next-near m (m .place) (destination-below m forward on e)
+turn-near m _ on onward e = after-near (m .n) (m .k) (m .place) (on .below) (step-served m forward onward e)
 turn-near m _ on backward e =
-    let d : m .place ≡ 0 → ⊥ = eqb-false (m .place) 0 (refuse-passed (eqb (m .place) 0) 9 e) in
-    let f : m .place - 1 + 1 ≡ m .place = omega arith in
-    let near = rw f at (next-near m (m .place - 1) (omega (arith, on .below))) in
-    near-back (row-permutation (moved m (m .place - 1)) (on-moved m on (m .place - 1) (omega (arith, on .below))) .size) near
+    let place = destination m back in
+    let below = destination-below m back on e in
+    let near = after-near (m .n) (m .k) place below (step-served m back backward e) in
+    near-back
+    (row-permutation (moved m place) (on-moved m on place below) .size)
+    (rw (after-before (c (m .n) (m .k)) (m .place) (on .below)) at near)
 
 -- demand 3, the steps: at each forward or back that is not refused, the answer's three positions are the step from the old row to the new one
 pub steps : (m : Machine) (call : Call) → OnPlace m → Steps call → refusalOf m call ≡ 0

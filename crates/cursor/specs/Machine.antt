@@ -47,17 +47,25 @@ observe m = record {
   array = padded (arrayOf (m .n) (rowOf m));
 }
 
--- forward: refused 9 at the last place; back: refused 10 at place 0; jump r: refused 3 if r ≥ c(n,k); show is not refused
+-- document 02, g): the list is closed. The place after another among so many places: after the last comes 0
+abbrev pub placeAfter : ℕ → ℕ → ℕ
+placeAfter count place = cond (eqb (place + 1) count) 0 (place + 1)
+
+-- and the place before: before 0 comes the last
+abbrev pub placeBefore : ℕ → ℕ → ℕ
+placeBefore count place = cond (eqb place 0) (count - 1) (place - 1)
+
+-- forward: refused 9 on a list of one permutation; back: refused 10 there; jump r: refused 3 if r ≥ c(n,k); show is not refused
 abbrev pub refusalOf : Machine → Call → ℕ
-refusalOf m forward = refuse (leb (c (m .n) (m .k)) (m .place + 1)) 9
-refusalOf m back = refuse (eqb (m .place) 0) 10
+refusalOf m forward = refuse (eqb (c (m .n) (m .k)) 1) 9
+refusalOf m back = refuse (eqb (c (m .n) (m .k)) 1) 10
 refusalOf m (jump r) = refuse (leb (c (m .n) (m .k)) r) 3
 refusalOf m show = 0
 
--- forward: place + 1; back: place − 1; jump r: place r; show stays
+-- forward: the place after; back: the place before; jump r: place r; show stays
 abbrev pub destination : Machine → Call → ℕ
-destination m forward = m .place + 1
-destination m back = m .place - 1
+destination m forward = placeAfter (c (m .n) (m .k)) (m .place)
+destination m back = placeBefore (c (m .n) (m .k)) (m .place)
 destination m (jump r) = r
 destination m show = m .place
 
@@ -132,8 +140,8 @@ shown m = record {
 
 -- the answer to a call that is not refused: three positions for forward and back, zeros for jump
 abbrev pub given : Machine → Call → Answer
-given m forward = stepped (rowOf m) (rowOf (moved m (m .place + 1)))
-given m back = stepped (rowOf m) (rowOf (moved m (m .place - 1)))
+given m forward = stepped (rowOf m) (rowOf (moved m (destination m forward)))
+given m back = stepped (rowOf m) (rowOf (moved m (destination m back)))
 given m (jump r) = bare 0
 given m show = shown m
 

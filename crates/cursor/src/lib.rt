@@ -9,16 +9,16 @@ ghost use Rattle.perm.specs.Permutation.{IsPermutation, fixed};
 ghost use Rattle.perm.specs.Array.{position, arrayOf};
 ghost use Rattle.gray.specs.Order.{S};
 ghost use Rattle.gray.specs.Listing.{rowAt, Near};
-ghost use Rattle.cursor.specs.Machine.{padded, observe, rowOf, moved, firstFrom, bare, stepped, forward, back, jump, show};
+ghost use Rattle.cursor.specs.Machine.{padded, observe, rowOf, placeAfter, placeBefore, moved, firstFrom, bare, stepped, forward, back, jump, show};
 ghost use Rattle.cursor.specs.Walk.{machineOf, sound, called, start, opened, decode, decoded, replayed};
 
 // Check 8: a record that is not one that the calls hand back.
 pub const REFUSED_RECORD: u8 = 8;
 
-// Forward at the last place.
+// Forward on a list of one permutation; every other list is closed.
 pub const REFUSED_LAST: u8 = 9;
 
-// Back at place 0.
+// Back on a list of one permutation.
 pub const REFUSED_FIRST: u8 = 10;
 
 // The calls of a list that is replayed; any other number is a show.
@@ -270,6 +270,23 @@ fn step_to(w: Cursor, place: u64) -> Step
     Step { cursor, answer }
 }
 
+// The place after one of so many: past the last it is place 0.
+fn place_after(count: u64, place: u64) -> u64
+    requires { ⌜ place < count ⌝ }
+    ensures { λ r. ⌜ r ≡ placeAfter count place ⌝ }
+{
+    let next = place + 1;
+    if next == count { 0 } else { next }
+}
+
+// The place before one of so many: before place 0 it is the last.
+fn place_before(count: u64, place: u64) -> u64
+    requires { ⌜ place < count ⌝ }
+    ensures { λ r. ⌜ r ≡ placeBefore count place ⌝ }
+{
+    if place == 0 { count - 1 } else { place - 1 }
+}
+
 impl Cursor {
     // A walk from place 0 of S(n,k). Refusals 1 and 2; a refused open hands back a walk of zeros. That is also the walk of the empty list, n = 0 with
     // k = 0, so only the refusal tells a refused open: a record of zeros does not.
@@ -295,31 +312,32 @@ impl Cursor {
         }
     }
 
-    // To the next place, with the three positions of the step. Refusals 8 and 9.
+    // To the next place, from the last to place 0, with the three positions of the step. Refusals 8 and 9.
     pub fn forward(self) -> Step
         ensures { λ r. ⌜ r ≡ called self forward ⌝ }
     {
         if !is_sound(self) {
             return refused(self, REFUSED_RECORD);
         }
-        let next = self.place + 1;
-        if next >= stirling::lookup(self.n, self.k) {
+        let count = stirling::lookup(self.n, self.k);
+        if count == 1 {
             return refused(self, REFUSED_LAST);
         }
-        step_to(self, next)
+        step_to(self, place_after(count, self.place))
     }
 
-    // To the place before, with the three positions of the step. Refusals 8 and 10.
+    // To the place before, from place 0 to the last, with the three positions of the step. Refusals 8 and 10.
     pub fn back(self) -> Step
         ensures { λ r. ⌜ r ≡ called self back ⌝ }
     {
         if !is_sound(self) {
             return refused(self, REFUSED_RECORD);
         }
-        if self.place == 0 {
+        let count = stirling::lookup(self.n, self.k);
+        if count == 1 {
             return refused(self, REFUSED_FIRST);
         }
-        step_to(self, self.place - 1)
+        step_to(self, place_before(count, self.place))
     }
 
     // To any place. Refusals 8 and 3.

@@ -1,24 +1,37 @@
 -- `Cursor::back` meets its contract: each return is one outcome of the call. Assumes nothing.
-use mathlib.Core.Path.{_≡_, sym, _∙_}
+use mathlib.Core.Path.{_≡_, sym, ap, _∙_}
 use mathlib.Core.Bool.{true}
+use native.Mathlib.Omega.{arith}
 use borrow.Author.Needs.{needs}
-use borrow.Author.Tests.{eq-eqb, ne-eqb}
-use Rattle.cursor.specs.Machine.{back, backward, refusalOf}
+use borrow.Author.Tests.{eq-eqb}
+use Rattle.stirling.specs.Count.{c as count-of}
+use Rattle.cursor.specs.Machine.{back, backward, placeBefore, refusalOf, destination}
 use Rattle.cursor.specs.Walk.{machineOf, sound}
-use Rattle.cursor.proofs.Calls.{destination-below}
-use Rattle.cursor.proofs.Sound.{sound-on}
-use Rattle.cursor.proofs.Steps.{turn-near}
-use Rattle.cursor.proofs.Outcomes.{fails, passes, called-unsound, called-refused, called-moves}
+use Rattle.cursor.specs.declared.Cursor.{Cursor}
+use Rattle.cursor.proofs.Steps.{step-serves}
+use Rattle.cursor.proofs.Outcomes.{fails, passes, called-unsound, called-refused, step-asks, step-gives, sound-count}
 use Rattle.cursor.proofs.Cursor.back.Statement.{statement}
 use Rattle.cursor.proofs.Cursor.back.Tie as tie
 
--- past the first test the record is sound
-passed : (c : tie.Else1) → sound (c .before .before .args .self) ≡ true
+-- the record, past the test for check 8
+abbrev given : tie.Else1 → Cursor
+given c = c .before .before .args .self
+
+-- it is sound
+passed : (c : tie.Else1) → sound (given c) ≡ true
 passed c = passes (c .before .is-sound .ensures) (c .if1 .left)
 
--- past the second the place is not the first
-not-first : (c : tie.Else2) → refusalOf (machineOf (c .before .before .before .before .args .self)) back ≡ 0
-not-first c = rw (ne-eqb (c .before .before .before .before .args .self .place) 0 (c .if2 .left))
+-- what was looked up is the count of its list
+counted : (c : tie.After-lookup) → c .lookup .result ≡ count-of (given (c .before) .n) (given (c .before) .k)
+counted c = c .lookup .ensures ∙ sound-count (given (c .before)) (passed (c .before)) .0
+
+-- past the second test the list has two rows or more
+serves : (c : tie.Else2) → refusalOf (machineOf (given (c .before .before))) back ≡ 0
+serves c = step-serves (machineOf (given (c .before .before))) back backward (λ e. c .if2 .left (counted (c .before) ∙ e))
+
+-- the place that was found is the machine's
+leads : (c : tie.After-place-before) → c .place-before .result ≡ destination (machineOf (given (c .before .before .before))) back
+leads c = c .place-before .ensures ∙ ap (λ count. placeBefore count (given (c .before .before .before) .place)) (counted (c .before .before))
 
 is-sound-requires : tie.Need-is-sound-requires
 is-sound-requires c κs = search needs
@@ -31,30 +44,35 @@ returns c =
     let found = c .before .before in
     c .refused .ensures ∙ sym (called-unsound (found .before .args .self) back (fails (found .is-sound .ensures) (c .before .if1 .taken)))
 
+lookup-requires : tie.Need-lookup-requires
+lookup-requires c κs = search needs
+
 refused-requires-2 : tie.Need-refused-requires-2
 refused-requires-2 c κs = search needs
 
 returns-2 : tie.Need-returns-2
 returns-2 c =
-    let tested = c .before .before .before in
-    let w = tested .before .before .args .self in
-    let at-first : refusalOf (machineOf w) back ≡ 10 = rw (eq-eqb (w .place) 0 (c .before .if2 .taken)) in
-    c .refused2 .ensures ∙ sym (called-refused w back 9 (passed tested) at-first)
+    let looked = c .before .before in
+    let w = given (looked .before) in
+    let one : count-of (w .n) (w .k) ≡ 1 = omega (arith, counted looked, c .before .if2 .taken) in
+    let alone : refusalOf (machineOf w) back ≡ 10 = rw (eq-eqb (count-of (w .n) (w .k)) 1 one) in
+    c .refused2 .ensures ∙ sym (called-refused w back 9 (passed (looked .before)) alone)
 
-sub-step-to : tie.Need-sub-step-to
-sub-step-to c = search needs
+place-before-requires : tie.Need-place-before-requires
+place-before-requires c κs =
+    let tested = c .before .before in
+    omega (arith, counted (c .before), sound-count (given tested) (passed tested))
 
 step-to-requires : tie.Need-step-to-requires
 step-to-requires c κs =
     let tested = c .before .before .before in
-    let w = tested .before .before .args .self in
-    let on = sound-on w (passed tested) in
-    (passed tested, destination-below (machineOf w) back on (not-first (c .before)), turn-near (machineOf w) back on backward (not-first (c .before)))
+    step-asks (given tested) back backward (passed tested) (serves (c .before)) (c .place-before .result) (leads c)
 
 returns-3 : tie.Need-returns-3
 returns-3 c =
-    let tested = c .before .before .before .before in
-    c .step-to .ensures ∙ sym (called-moves (tested .before .before .args .self) back (passed tested) (not-first (c .before .before)))
+    let found = c .before in
+    let tested = found .before .before .before in
+    c .step-to .ensures ∙ step-gives (given tested) back backward (passed tested) (serves (found .before)) (found .place-before .result) (leads found)
 
 pub back-spec : {M : Type 1} → statement M
 back-spec =
@@ -63,8 +81,9 @@ back-spec =
     is-sound-requires
     refused-requires
     returns
+    lookup-requires
     refused-requires-2
     returns-2
-    sub-step-to
+    place-before-requires
     step-to-requires
     returns-3)

@@ -1,30 +1,37 @@
 -- `Cursor::forward` meets its contract: each return is one outcome of the call. Assumes nothing.
-use mathlib.Core.Path.{_≡_, sym, _∙_}
+use mathlib.Core.Path.{_≡_, sym, ap, _∙_}
 use mathlib.Core.Bool.{true}
-use Prim.Native.Nat.{_+_}
 use native.Mathlib.Omega.{arith}
 use borrow.Author.Needs.{needs}
-use borrow.Author.Tests.{le-leb, lt-leb}
+use borrow.Author.Tests.{eq-eqb}
 use Rattle.stirling.specs.Count.{c as count-of}
-use Rattle.cursor.specs.Machine.{forward, onward, refusalOf}
+use Rattle.cursor.specs.Machine.{forward, onward, placeAfter, refusalOf, destination}
 use Rattle.cursor.specs.Walk.{machineOf, sound}
-use Rattle.cursor.proofs.Calls.{destination-below}
-use Rattle.cursor.proofs.Sound.{sound-on}
-use Rattle.cursor.proofs.Steps.{turn-near}
-use Rattle.cursor.proofs.Outcomes.{fails, passes, called-unsound, called-refused, called-moves, sound-count}
+use Rattle.cursor.specs.declared.Cursor.{Cursor}
+use Rattle.cursor.proofs.Steps.{step-serves}
+use Rattle.cursor.proofs.Outcomes.{fails, passes, called-unsound, called-refused, step-asks, step-gives, sound-count}
 use Rattle.cursor.proofs.Cursor.forward.Statement.{statement}
 use Rattle.cursor.proofs.Cursor.forward.Tie as tie
 
--- past the first test the record is sound
-passed : (c : tie.Else1) → sound (c .before .before .args .self) ≡ true
+-- the record, past the test for check 8
+abbrev given : tie.Else1 → Cursor
+given c = c .before .before .args .self
+
+-- it is sound
+passed : (c : tie.Else1) → sound (given c) ≡ true
 passed c = passes (c .before .is-sound .ensures) (c .if1 .left)
 
--- past the second the place is not the last
-not-last : (c : tie.Else2) → refusalOf (machineOf (c .before .before .before .before .before .args .self)) forward ≡ 0
-not-last c =
-    let w = c .before .before .before .before .before .args .self in
-    let count = sound-count w (passed (c .before .before .before)) in
-    rw (lt-leb (count-of (w .n) (w .k)) (w .place + 1) (omega arith))
+-- what was looked up is the count of its list
+counted : (c : tie.After-lookup) → c .lookup .result ≡ count-of (given (c .before) .n) (given (c .before) .k)
+counted c = c .lookup .ensures ∙ sound-count (given (c .before)) (passed (c .before)) .0
+
+-- past the second test the list has two rows or more
+serves : (c : tie.Else2) → refusalOf (machineOf (given (c .before .before))) forward ≡ 0
+serves c = step-serves (machineOf (given (c .before .before))) forward onward (λ e. c .if2 .left (counted (c .before) ∙ e))
+
+-- the place that was found is the machine's
+leads : (c : tie.After-place-after) → c .place-after .result ≡ destination (machineOf (given (c .before .before .before))) forward
+leads c = c .place-after .ensures ∙ ap (λ count. placeAfter count (given (c .before .before .before) .place)) (counted (c .before .before))
 
 is-sound-requires : tie.Need-is-sound-requires
 is-sound-requires c κs = search needs
@@ -37,9 +44,6 @@ returns c =
     let found = c .before .before in
     c .refused .ensures ∙ sym (called-unsound (found .before .args .self) forward (fails (found .is-sound .ensures) (c .before .if1 .taken)))
 
-add-next : tie.Need-add-next
-add-next c = omega (arith, sound-count (c .before .before .before .args .self) (passed (c .before)))
-
 lookup-requires : tie.Need-lookup-requires
 lookup-requires c κs = search needs
 
@@ -48,23 +52,27 @@ refused-requires-2 c κs = search needs
 
 returns-2 : tie.Need-returns-2
 returns-2 c =
-    let tested = c .before .before .before .before in
-    let w = tested .before .before .args .self in
-    let count = sound-count w (passed tested) in
-    let last : refusalOf (machineOf w) forward ≡ 9 = rw (le-leb (count-of (w .n) (w .k)) (w .place + 1) (omega arith)) in
-    c .refused2 .ensures ∙ sym (called-refused w forward 8 (passed tested) last)
+    let looked = c .before .before in
+    let w = given (looked .before) in
+    let one : count-of (w .n) (w .k) ≡ 1 = omega (arith, counted looked, c .before .if2 .taken) in
+    let alone : refusalOf (machineOf w) forward ≡ 9 = rw (eq-eqb (count-of (w .n) (w .k)) 1 one) in
+    c .refused2 .ensures ∙ sym (called-refused w forward 8 (passed (looked .before)) alone)
+
+place-after-requires : tie.Need-place-after-requires
+place-after-requires c κs =
+    let tested = c .before .before in
+    omega (arith, counted (c .before), sound-count (given tested) (passed tested))
 
 step-to-requires : tie.Need-step-to-requires
 step-to-requires c κs =
     let tested = c .before .before .before in
-    let w = tested .before .before .args .self in
-    let on = sound-on w (passed tested) in
-    (passed tested, destination-below (machineOf w) forward on (not-last c), turn-near (machineOf w) forward on onward (not-last c))
+    step-asks (given tested) forward onward (passed tested) (serves (c .before)) (c .place-after .result) (leads c)
 
 returns-3 : tie.Need-returns-3
 returns-3 c =
-    let tested = c .before .before .before .before in
-    c .step-to .ensures ∙ sym (called-moves (tested .before .before .args .self) forward (passed tested) (not-last (c .before)))
+    let found = c .before in
+    let tested = found .before .before .before in
+    c .step-to .ensures ∙ step-gives (given tested) forward onward (passed tested) (serves (found .before)) (found .place-after .result) (leads found)
 
 pub forward-spec : {M : Type 1} → statement M
 forward-spec =
@@ -73,9 +81,9 @@ forward-spec =
     is-sound-requires
     refused-requires
     returns
-    add-next
     lookup-requires
     refused-requires-2
     returns-2
+    place-after-requires
     step-to-requires
     returns-3)
