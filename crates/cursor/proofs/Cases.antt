@@ -1,18 +1,36 @@
--- The cases of document 01 that are steps: the three positions that the plain machine answers; shows; and the walk of the empty list. By computation. Assumes nothing.
+-- The cases of document 01 that are steps: the three positions that the plain machine answers; shows; the ends of a list; and the walk of the empty list. By computation. Assumes nothing.
 use mathlib.Core.Path.{_≡_, refl}
 use Prim.Native.Nat.{ℕ}
+use lib.ListN.{replicate}
 use Rattle.stirling.specs.Count.{c}
 use Rattle.perm.specs.Lists.{tally, range, same}
 use Rattle.perm.specs.Permutation.{exchange, fixed, extend, insert}
 use Rattle.perm.specs.Array.{position, arrayOf}
 use Rattle.gray.specs.Order.{S, relation, relationA, relationB, relationC, relationD, relationE, letter, joined, rows, reading, odd, rising, falling}
-use Rattle.cursor.specs.Machine.{forward, back, jump, show, observe, firstFrom, moved, turn, bare, answered}
+use Rattle.cursor.specs.Machine.{Machine, Call, forward, back, jump, show, observe, firstFrom, moved, turn, bare, answered}
 use Rattle.cursor.specs.Walk.{sound, called, start, zeros, opened}
 use Rattle.cursor.specs.declared.Answer.{Answer}
 
 -- the three positions of an answer
 abbrev Names : Answer → ℕ → ℕ → ℕ → Type 0
 Names answer i j l = (answer .i ≡ i) × (answer .j ≡ j) × (answer .l ≡ l)
+
+-- the answer that reports three positions
+abbrev three : ℕ → ℕ → ℕ → Answer
+three i j l = record {
+  refusal = 0;
+  i = i;
+  j = j;
+  l = l;
+  place = 0;
+  perm = replicate 20 0;
+  array = replicate 20 0;
+  fixed = 0;
+}
+
+-- a call on the record of one place gives the record of another, and an answer
+abbrev Goes : Machine → Call → ℕ → Answer → Type 0
+Goes m call place answer = called (observe m) call ≡ record { cursor = observe (moved m place); answer = answer }
 
 pub record Table : Type 0 where
   -- 4,2: 0 to 1: roads 2,4,3
@@ -31,6 +49,17 @@ pub record Table : Type 0 where
   pub jump-0-0-0 : called zeros (jump 0) ≡ record { cursor = zeros; answer = bare 0 }
   pub jump-0-0-1 : called zeros (jump 1) ≡ record { cursor = zeros; answer = bare 3 }
   pub show-0-0 : called zeros show ≡ record { cursor = zeros; answer = bare 0 }
+  -- document 02, g), 4,2 and 5,2: forward from the last place to 0, and back from 0 to the last
+  pub round-4-2 : Goes (moved (start 4 2) 10) forward 0 (three 1 2 4)
+  pub around-4-2 : Goes (start 4 2) back 10 (three 1 4 2)
+  pub round-5-2 : Goes (moved (start 5 2) 49) forward 0 (three 1 2 5)
+  pub around-5-2 : Goes (start 5 2) back 49 (three 1 5 2)
+  -- 3,1, a list of two: both ends lie either way
+  pub round-3-1 : Goes (moved (start 3 1) 1) forward 0 (three 1 2 3)
+  pub around-3-1 : Goes (start 3 1) back 1 (three 1 3 2)
+  -- 2,1, a list of one: forward is refused 9 and back 10
+  pub forward-2-1 : Goes (start 2 1) forward 0 (bare 9)
+  pub back-2-1 : Goes (start 2 1) back 0 (bare 10)
 
 pub table : Table
 unfolding S relation relationA relationB relationC relationD relationE letter joined rows reading odd rising falling range insert extend c position firstFrom answered opened called sound observe turn same arrayOf exchange fixed tally
@@ -47,4 +76,12 @@ table =
       jump-0-0-0 = refl;
       jump-0-0-1 = refl;
       show-0-0 = refl;
+      round-4-2 = refl;
+      around-4-2 = refl;
+      round-5-2 = refl;
+      around-5-2 = refl;
+      round-3-1 = refl;
+      around-3-1 = refl;
+      forward-2-1 = refl;
+      back-2-1 = refl;
     }

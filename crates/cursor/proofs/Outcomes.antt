@@ -24,7 +24,7 @@ pub passes : {found right : Bool} → found ≡ right → not found ≡ false �
 passes {found} e t = sym e ∙ not-false found t
 
 -- what forward and back answer where they are not refused
-given-step : (m : Machine) {call : Call} → Steps call → given m call ≡ stepped (rowOf m) (rowOf (moved m (destination m call)))
+pub given-step : (m : Machine) {call : Call} → Steps call → given m call ≡ stepped (rowOf m) (rowOf (moved m (destination m call)))
 given-step m onward = refl
 given-step m backward = refl
 

@@ -16,7 +16,7 @@ turn-positions : {n i j l : ℕ} → Positions n i j l → Positions n j l i
 turn-positions p = record { i-in = p .j-in; j-in = p .l-in; l-in = p .i-in; i-j = p .j-l; j-l = p .l-i; l-i = p .i-j }
 
 -- the other way round
-back-positions : {n i j l : ℕ} → Positions n i j l → Positions n i l j
+pub back-positions : {n i j l : ℕ} → Positions n i j l → Positions n i l j
 back-positions p =
     record {
       i-in = p .i-in;
@@ -73,7 +73,7 @@ pub at-rotate-j : {n i j l : ℕ} (s : Row) → length s ≡ n → Positions n i
 at-rotate-j s z p = rw (rotate-turn s z p) (at-rotate-i s z (turn-positions p))
 
 -- ⟨i,l,j⟩ undoes ⟨i,j,l⟩
-rotate-back : {n i j l : ℕ} (s : Row) → length s ≡ n → Positions n i j l → rotate (rotate s i j l) i l j ≡ s
+pub rotate-back : {n i j l : ℕ} (s : Row) → length s ≡ n → Positions n i j l → rotate (rotate s i j l) i l j ≡ s
 rotate-back {n} {i} {j} {l} s z p =
     let t = rotate s i j l in
     let y : length t ≡ n = length-rotate s i j l ∙ z in

@@ -1,6 +1,6 @@
 -- The three positions that forward and back report: three different ones, i the smallest, new = old·⟨i,j,l⟩, and the only such three. From the neighbours of
 -- S(n,k), which crate gray proves. Assumes nothing.
-use mathlib.Core.Path.{_≡_, _∙_, sym}
+use mathlib.Core.Path.{_≡_, _∙_, sym, ap}
 use mathlib.Core.List.{[], _∷_}
 use Prim.Native.Nat.{ℕ, zero, suc, _+_, _-_, _≤_, _<_}
 use native.Mathlib.Omega.{arith}
@@ -18,10 +18,10 @@ use Rattle.gray.specs.Order.{Row, S}
 use Rattle.gray.specs.Listing.{rowAt, Positions, Near}
 use Rattle.gray.proofs.Once.{length-S, complete}
 use Rattle.gray.proofs.Neighbours.{neighbours, closed}
-use Rattle.cursor.specs.Machine.{Machine, Call, forward, back, Steps, onward, backward, rowOf, placeAfter, refusalOf, destination, moved, turn, firstFrom, stepI, stepJ, stepL, IsStep, answered}
+use Rattle.cursor.specs.Machine.{Machine, Call, forward, back, Steps, onward, backward, rowOf, placeAfter, refusalOf, destination, moved, turn, firstFrom, stepI, stepJ, stepL, IsStep, Reversed, stepped, answered}
 use Rattle.cursor.proofs.Ring.{after-last, after-other, after-before}
 use Rattle.cursor.proofs.Calls.{OnPlace, on-moved, destination-below}
-use Rattle.cursor.proofs.Rotate.{length-rotate, at-rotate-i, at-rotate-j, at-rotate-other, near-back, from-smallest}
+use Rattle.cursor.proofs.Rotate.{back-positions, length-rotate, at-rotate-i, at-rotate-j, at-rotate-other, rotate-back, near-back, from-smallest}
 
 -- the first index where two rows differ, as a position
 first-from : (i : ℕ) (s t : Row) (x : ℕ) → x < length s → x < length t → ((y : ℕ) → y < x → getD s y 0 ≡ getD t y 0)
@@ -62,6 +62,15 @@ near-step {n} {s} {t} p near =
       step = rw (← l, ← j, ← i) (r .step);
       only = reported p;
     }
+
+-- the step back between near rows goes round the same positions the other way
+pub step-back : {n : ℕ} {s t : Row} → IsPermutation n s → IsPermutation n t → Near n s t → Reversed (stepped s t) (stepped t s)
+step-back {s = s} {t} p q near =
+    let there = near-step p near in
+    let back : s ≡ rotate t (stepI s t) (stepL s t) (stepJ s t) =
+    sym (rotate-back s (p .size) (there .three)) ∙ ap (λ r. rotate r (stepI s t) (stepL s t) (stepJ s t)) (sym (there .step)) in
+    let (i, j, l) = reported q (stepI s t) (stepL s t) (stepJ s t) (back-positions (there .three)) (there .smallest .1) (there .smallest .0) back in
+    (sym i, sym j, sym l)
 
 -- the row of a machine on its place is a permutation
 pub row-permutation : (m : Machine) → OnPlace m → IsPermutation (m .n) (rowOf m)

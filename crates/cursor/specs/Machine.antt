@@ -99,6 +99,10 @@ pub record IsStep (n : ℕ) (old new : Row) (i j l : ℕ) : Type 0 where
   pub step : new ≡ rotate old i j l
   pub only : (i′ j′ l′ : ℕ) → Positions n i′ j′ l′ → i′ ≤ j′ → i′ ≤ l′ → new ≡ rotate old i′ j′ l′ → (i′ ≡ i) × (j′ ≡ j) × (l′ ≡ l)
 
+-- the second answer has the positions of the first the other way round: i, l, j
+abbrev pub Reversed : Answer → Answer → Type 0
+Reversed a b = (b .i ≡ a .i) × (b .j ≡ a .l) × (b .l ≡ a .j)
+
 -- a refusal, or 0 for none, and zeros for the rest
 abbrev pub bare : ℕ → Answer
 bare r = record {

@@ -1,13 +1,16 @@
 -- Document 01's *walk* as a record that a caller hands in, sound or not: what each call gives for EVERY record. These are definitions; nothing is assumed.
-use Prim.Native.Nat.{ℕ}
+use mathlib.Core.Path.{_≡_}
+use Prim.Native.Nat.{ℕ, zero, suc, _<_}
 use mathlib.Core.Bool.{Bool, not, cond, _&&_}
 use mathlib.Core.List.{List, [], _∷_}
 use lib.Dec.{eqb}
-use lib.ListN.{replicate}
+use lib.ListN.{replicate, take}
 use Rattle.stirling.specs.Refusal.{refuse, unless}
-use Rattle.stirling.specs.Count.{checkCycles, checkPlace}
+use Rattle.stirling.specs.Count.{c, checkCycles, checkPlace}
 use Rattle.perm.specs.Lists.{same}
-use Rattle.cursor.specs.Machine.{Machine, Call, forward, back, jump, show, observe, turned, machineRun, bare}
+use Rattle.gray.specs.Order.{Row}
+use Rattle.gray.specs.Listing.{HasCycles}
+use Rattle.cursor.specs.Machine.{Machine, Call, forward, back, jump, show, observe, turned, machineRun, Reversed, bare}
 use Rattle.cursor.specs.declared.Cursor.{Cursor}
 use Rattle.cursor.specs.declared.Step.{Step}
 
@@ -55,6 +58,28 @@ walkRun n k calls = opened n k ∷ callsRun (opened n k .cursor) calls
 -- the whole list of the plain machine: what stands after the open and after each call
 abbrev pub plainRun : ℕ → ℕ → List Call → List Step
 plainRun n k calls = record { cursor = observe (start n k); answer = bare 0 } ∷ machineRun (start n k) calls
+
+-- document 02, g): a call undoes another on a record: it hands the record back, with the three positions the other way round, and is refused only if the other was
+pub record Undone (w : Cursor) (call other : Call) : Type 0 where
+  pub same-record : called (called w call .cursor) other .cursor ≡ w
+  pub reversed : Reversed (called w call .answer) (called (called w call .cursor) other .answer)
+  pub served : called w call .answer .refusal ≡ 0 → called (called w call .cursor) other .answer .refusal ≡ 0
+
+-- the record after so many forwards
+unfoldable pub forwards : ℕ → Cursor → Cursor
+forwards zero w = w
+forwards (suc t) w = called (forwards t w) forward .cursor
+
+-- its permutation
+abbrev pub permutationOf : Cursor → Row
+permutationOf w = take (w .n) (w .perm)
+
+-- once round the list from a record on: c(n,k) forwards meet every permutation of n with k cycles exactly once, and nothing else, and end where they began
+pub record Round (w : Cursor) : Type 0 where
+  pub each : (t : ℕ) → t < c (w .n) (w .k) → HasCycles (w .n) (w .k) (permutationOf (forwards t w))
+  pub met : (s : Row) → HasCycles (w .n) (w .k) s → (t : ℕ) × (t < c (w .n) (w .k)) × (permutationOf (forwards t w) ≡ s)
+  pub only : (t u : ℕ) → t < c (w .n) (w .k) → u < c (w .n) (w .k) → permutationOf (forwards t w) ≡ permutationOf (forwards u w) → t ≡ u
+  pub ends : forwards (c (w .n) (w .k)) w ≡ w
 
 -- a call as two numbers: 1 forward, 2 back, 3 jump to the place given, any other show
 abbrev pub decode : ℕ → ℕ → Call

@@ -1,14 +1,14 @@
--- The request's demands 2 and 3 as theorems, and what document 02, b) to f), adds, to be read from top to bottom beside them. Each is a law of a crate below, stated
+-- The request's demands 2 and 3 as theorems, and what document 02, b) to g), adds, to be read from top to bottom beside them. Each is a law of a crate below, stated
 -- in full here so that nothing has to be looked up but the definitions in specs/. What demand 1 asks is met by the proofs of the functions themselves
 -- (docs/DEMANDS.md says how). Assumes nothing.
 use mathlib.Core.Path.{_≡_, _∙_, sym, ap}
 use mathlib.Core.Logic.{_⊎_}
 use Prim.Native.Nat.{ℕ, suc, _+_, _-_, _*_, _≤_, _<_, _^_}
-use mathlib.Core.Bool.{Bool, false}
+use mathlib.Core.Bool.{Bool, true, false}
 use mathlib.Core.List.{List, _∷_, _++_}
 use lib.Dec.{eqb}
 use lib.ListN.{length, getD, take}
-use Rattle.stirling.specs.Refusal.{unless}
+use Rattle.stirling.specs.Refusal.{refuse, unless}
 use Rattle.stirling.specs.Count.{c, countOf, checkCycles, checkPlace}
 use Rattle.stirling.proofs.Counts.{cycles-passes, cycles-passed, fits}
 use Rattle.perm.specs.Lists.{tally, positions}
@@ -23,7 +23,7 @@ use Rattle.perm.proofs.Cases as FixedPoints
 use Rattle.gray.specs.declared.Block.the-variants.{Extend as E}
 use Rattle.gray.specs.Order.{Row, S, letter}
 use Rattle.gray.specs.Blocks.{blocks}
-use Rattle.gray.specs.Listing.{HasCycles, Complete, Neighbours, Closed}
+use Rattle.gray.specs.Listing.{rowAt, HasCycles, Complete, Neighbours, Closed}
 use Rattle.gray.proofs.Once as Once
 use Rattle.gray.proofs.Neighbours as Neighbours
 use Rattle.gray.proofs.Cases as Cases
@@ -60,12 +60,14 @@ use Rattle.inversion.proofs.Cases as Inversions
 use Rattle.sequences.specs.Listed.{Made, CompleteLows}
 use Rattle.sequences.proofs.Listed.{lows-cycles, sequences-of, one-list, complete-lows, length-sequences}
 use Rattle.cursor.specs.declared.Cursor.{Cursor}
-use Rattle.cursor.specs.Machine.{Machine, Call, show, Steps, rowOf, refusalOf, turn, answered, IsStep}
-use Rattle.cursor.specs.Walk.{called, walkRun, plainRun}
+use Rattle.cursor.specs.Machine.{Machine, Call, forward, back, show, Steps, observe, rowOf, refusalOf, moved, turn, IsStep, stepped, answered}
+use Rattle.cursor.specs.Walk.{sound, called, start, walkRun, plainRun, Undone, Round}
 use Rattle.cursor.proofs.Calls as Calls
 use Rattle.cursor.proofs.Calls.{placed}
 use Rattle.cursor.proofs.Steps as Steps
 use Rattle.cursor.proofs.Reported.{shown-number, no-number}
+use Rattle.cursor.proofs.Undone.{undone, by-back, by-forward}
+use Rattle.cursor.proofs.Round as Round
 use Rattle.cursor.proofs.Cases as Walks
 
 -- ---- Demand 2: the counts, the lists, the places and the transposition arrays equal those of relations (a) to (e), from place to permutation and back
@@ -317,3 +319,34 @@ sequences-complete n k m = (complete-lows n k m, length-sequences n k m)
 -- examples
 pub inversion-cases : Inversions.Table
 inversion-cases = Inversions.table
+
+-- ---- Document 02, g): the list is closed. `calls` and `steps` above have the step between its last place and place 0 among theirs
+
+-- forward from the last place of a list of two rows or more hands back the record of place 0, with the three positions of the step from the last row to the first
+pub last-to-first : (n k : ℕ) → checkCycles n k ≡ 0 → 2 ≤ c n k
+    → called (observe (moved (start n k) (c n k - 1))) forward
+    ≡ record { cursor = observe (start n k); answer = stepped (rowAt (S n k) (c n k - 1)) (rowAt (S n k) 0) }
+last-to-first = Round.last-to-first
+
+-- and back from place 0 that of the last place, with those from the first row to the last
+pub first-to-last : (n k : ℕ) → checkCycles n k ≡ 0 → 2 ≤ c n k
+    → called (observe (start n k)) back
+    ≡ record { cursor = observe (moved (start n k) (c n k - 1)); answer = stepped (rowAt (S n k) 0) (rowAt (S n k) (c n k - 1)) }
+first-to-last = Round.first-to-last
+
+-- on a record that passes check 8 forward is refused 9 and back 10 on a list of one permutation, the empty list of n = 0 among them, and on no other
+pub refused-alone : (w : Cursor) → sound w ≡ true
+    → (called w forward .answer .refusal ≡ refuse (eqb (c (w .n) (w .k)) 1) 9) × (called w back .answer .refusal ≡ refuse (eqb (c (w .n) (w .k)) 1) 10)
+refused-alone = Round.refused-alone
+
+-- forward then back gives the record that it started from, with the three positions the other way round, and back then forward too: at every place of every list, and
+-- even on a record that fails check 8, which both hand back
+pub forward-back : (w : Cursor) → Undone w forward back
+forward-back w = undone w forward back by-back
+
+pub back-forward : (w : Cursor) → Undone w back forward
+back-forward w = undone w back forward by-forward
+
+-- from whatever place a planner starts, c(n,k) forwards meet every permutation of n with k cycles exactly once, and nothing else, and end where they began
+pub once-round : (w : Cursor) → sound w ≡ true → Round w
+once-round = Round.once-round
