@@ -19,7 +19,7 @@ use Rattle.cursor.specs.declared.Answer.{Answer}
 use Rattle.cursor.proofs.Ring.{after-last, after-other, before-first, after-below}
 use Rattle.cursor.proofs.Calls.{OnPlace, on-moved, sound-observe, called-observe, start-on}
 use Rattle.cursor.proofs.Padding.{take-shown}
-use Rattle.cursor.proofs.Steps.{step-serves}
+use Rattle.cursor.proofs.Steps.{step-serves, step-stays}
 use Rattle.cursor.proofs.Sound.{sound-on, sound-shows}
 use Rattle.cursor.proofs.Outcomes.{step-gives}
 use Rattle.cursor.proofs.Undone.{turn-stays, turn-moves, called-turned}
@@ -34,9 +34,10 @@ pub refused-alone : (w : Cursor) → sound w ≡ true
     → (called w forward .answer .refusal ≡ refuse (eqb (c (w .n) (w .k)) 1) 9) × (called w back .answer .refusal ≡ refuse (eqb (c (w .n) (w .k)) 1) 10)
 unfolding answered
 refused-alone w e =
-    let m = machineOf w in
-    (rw (called-turned w forward e) (unless-bare (refusalOf m forward) (given m forward) refl),
-    rw (called-turned w back e) (unless-bare (refusalOf m back) (given m back) refl))
+    let m = machineOf w in (
+      rw (called-turned w forward e) (unless-bare (refusalOf m forward) (given m forward) refl),
+      rw (called-turned w back e) (unless-bare (refusalOf m back) (given m back) refl),
+    )
 
 -- forward from the last place leads to place 0, and back from place 0 to the last
 module _ (n k : ℕ) (e : checkCycles n k ≡ 0) (two : 2 ≤ c n k) where
@@ -62,10 +63,7 @@ turn-forward : (m : Machine) → OnPlace m → turn m forward ≡ moved m (place
 turn-forward m on = go (ℕ-discrete (c (m .n) (m .k)) 1)
   where
     go : Dec (c (m .n) (m .k) ≡ 1) → turn m forward ≡ moved m (placeAfter (c (m .n) (m .k)) (m .place))
-    go (yes e) =
-        let below = on .below in
-        let here : m .place ≡ placeAfter (c (m .n) (m .k)) (m .place) = omega arith ∙ sym (after-last (c (m .n) (m .k)) (m .place) (omega arith)) in
-        turn-stays m forward onward e ∙ ap (moved m) here
+    go (yes e) = turn-stays m forward onward e ∙ ap (moved m) (sym (step-stays m forward on onward e))
     go (no d) = turn-moves m forward onward d
 
 -- q lies t places on from a place among so many, past the last one or not
@@ -129,8 +127,8 @@ module _ (w : Cursor) (e : sound w ≡ true) where
         place = placeAfter (c (w .n) (w .k)) (a .place);
         onwards = onwards-suc (sound-on w e .below) (omega arith) (a .onwards);
         shows = ap (λ v. called v forward .cursor) (a .shows)
-        ∙ ap (λ s. s .cursor) (called-observe (moved m (a .place)) forward on)
-        ∙ ap observe (turn-forward (moved m (a .place)) on);
+            ∙ ap (λ s. s .cursor) (called-observe (moved m (a .place)) forward on)
+            ∙ ap observe (turn-forward (moved m (a .place)) on);
       }
 
   -- and the row there

@@ -19,7 +19,7 @@ use Rattle.gray.specs.Listing.{rowAt, Positions, Near}
 use Rattle.gray.proofs.Once.{length-S, complete}
 use Rattle.gray.proofs.Neighbours.{neighbours, closed}
 use Rattle.cursor.specs.Machine.{Machine, Call, forward, back, Steps, onward, backward, rowOf, placeAfter, refusalOf, destination, moved, turn, firstFrom, stepI, stepJ, stepL, IsStep, Reversed, stepped, answered}
-use Rattle.cursor.proofs.Ring.{after-last, after-other, after-before}
+use Rattle.cursor.proofs.Ring.{after-last, after-other, after-before, after-alone, before-alone, alone-after, alone-before}
 use Rattle.cursor.proofs.Calls.{OnPlace, on-moved, destination-below}
 use Rattle.cursor.proofs.Rotate.{back-positions, length-rotate, at-rotate-i, at-rotate-j, at-rotate-other, rotate-back, near-back, from-smallest}
 
@@ -85,6 +85,16 @@ step-serves m _ backward d = rw (ne-eqb (c (m .n) (m .k)) 1 d)
 pub step-served : (m : Machine) (call : Call) → Steps call → refusalOf m call ≡ 0 → c (m .n) (m .k) ≡ 1 → ⊥
 step-served m _ onward e = eqb-false (c (m .n) (m .k)) 1 (refuse-passed (eqb (c (m .n) (m .k)) 1) 8 e)
 step-served m _ backward e = eqb-false (c (m .n) (m .k)) 1 (refuse-passed (eqb (c (m .n) (m .k)) 1) 9 e)
+
+-- on a list of one permutation a step would stay
+pub step-stays : (m : Machine) (call : Call) → OnPlace m → Steps call → c (m .n) (m .k) ≡ 1 → destination m call ≡ m .place
+step-stays m _ on onward = after-alone (c (m .n) (m .k)) (m .place) (on .below)
+step-stays m _ on backward = before-alone (c (m .n) (m .k)) (m .place) (on .below)
+
+-- and on no other
+pub stays-alone : (m : Machine) (call : Call) → OnPlace m → Steps call → destination m call ≡ m .place → c (m .n) (m .k) ≡ 1
+stays-alone m _ on onward = alone-after (c (m .n) (m .k)) (m .place) (on .below)
+stays-alone m _ on backward = alone-before (c (m .n) (m .k)) (m .place) (on .below)
 
 -- a row of a list of two or more is near the one at the place after, the last one near the first
 after-near : (n k place : ℕ) → place < c n k → (c n k ≡ 1 → ⊥) → Near n (rowAt (S n k) place) (rowAt (S n k) (placeAfter (c n k) place))

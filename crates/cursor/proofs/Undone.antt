@@ -109,6 +109,7 @@ undone w call other pair = cases (sound w) passes fails
           reversed = rw (again, called-turned w call e) (answers .0);
           served = rw (again, called-turned w call e) (answers .1);
         }
+
     fails : sound w ≡ false → Undone w call other
     fails e =
         let one = called-unsound w call e in

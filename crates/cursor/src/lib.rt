@@ -270,7 +270,7 @@ fn step_to(w: Cursor, place: u64) -> Step
     Step { cursor, answer }
 }
 
-// The place after one of so many: past the last it is place 0.
+// The place after one of so many: past the last it is place 0. Only where there is no other is it the place itself.
 fn place_after(count: u64, place: u64) -> u64
     requires { ⌜ place < count ⌝ }
     ensures { λ r. ⌜ r ≡ placeAfter count place ⌝ }
@@ -279,7 +279,7 @@ fn place_after(count: u64, place: u64) -> u64
     if next == count { 0 } else { next }
 }
 
-// The place before one of so many: before place 0 it is the last.
+// The place before one of so many: before place 0 it is the last. Only where there is no other is it the place itself.
 fn place_before(count: u64, place: u64) -> u64
     requires { ⌜ place < count ⌝ }
     ensures { λ r. ⌜ r ≡ placeBefore count place ⌝ }
@@ -319,11 +319,13 @@ impl Cursor {
         if !is_sound(self) {
             return refused(self, REFUSED_RECORD);
         }
+        let place = self.place;
         let count = stirling::lookup(self.n, self.k);
-        if count == 1 {
+        let next = place_after(count, place);
+        if next == place {
             return refused(self, REFUSED_LAST);
         }
-        step_to(self, place_after(count, self.place))
+        step_to(self, next)
     }
 
     // To the place before, from place 0 to the last, with the three positions of the step. Refusals 8 and 10.
@@ -333,11 +335,13 @@ impl Cursor {
         if !is_sound(self) {
             return refused(self, REFUSED_RECORD);
         }
+        let place = self.place;
         let count = stirling::lookup(self.n, self.k);
-        if count == 1 {
+        let previous = place_before(count, place);
+        if previous == place {
             return refused(self, REFUSED_FIRST);
         }
-        step_to(self, place_before(count, self.place))
+        step_to(self, previous)
     }
 
     // To any place. Refusals 8 and 3.

@@ -1,7 +1,8 @@
 // Pages through lists by a cursor and prints a line for each place met: n, k and the place, the permutation, its transposition array, and the three
-// positions of the step that the cursor makes from there. First every list for n up to 7, forward; then every list for n up to 5, back from its end; then
-// jumps about the lists for n = 6; then a jump to the end of each list for n from 8 to 20 and one to its beginning; then jumps to the random places that
-// `stdin` names, ten bytes each: n, k and the place, its highest byte first. `stdout` comes from another author's generator.
+// positions of the step that the cursor makes from there. First every list for n up to 7, forward past its end to place 0; then every list for n up to 5, back
+// past its start and round to place 0; then jumps about the lists for n = 6; then a jump to the end of each list for n from 8 to 20 and one to its beginning;
+// then jumps to the random places that `stdin` names, ten bytes each: n, k and the place, its highest byte first. `stdout` comes from another author's
+// generator, and the step from the last row of a list is that to the first, by their values.
 use cursor::Answer;
 use cursor::Cursor;
 use libc::STDIN_FILENO;
@@ -52,7 +53,7 @@ fn print_back(w: Cursor) -> Cursor {
     step.cursor
 }
 
-// Forward through S(n,k).
+// Forward through S(n,k), and past its end the first place again.
 fn page_forward(n: u64, k: u64) {
     let rows = stirling::lookup(n, k);
     let mut w = Cursor::open(n, k).cursor;
@@ -61,22 +62,19 @@ fn page_forward(n: u64, k: u64) {
         w = print_forward(w);
         turn += 1;
     }
+    print_forward(w);
 }
 
-// Back through S(n,k) from its end.
-fn page_back(n: u64, k: u64)
-    requires { ⌜ n ≤ 20 ⌝ }
-{
+// Back past the start of S(n,k), and through it to the first place again.
+fn page_back(n: u64, k: u64) {
     let rows = stirling::lookup(n, k);
     let mut w = Cursor::open(n, k).cursor;
-    if rows > 0 {
-        w = w.jump(rows - 1).cursor;
-    }
     let mut turn = 0;
     while turn < rows {
         w = print_back(w);
         turn += 1;
     }
+    print_back(w);
 }
 
 // A jump about a list of so many rows.
@@ -111,9 +109,7 @@ fn jump_to_ends(n: u64, k: u64) {
 }
 
 // What is done at n and k: 1 forward, 2 back, 3 jumps about, any other the ends.
-fn page(kind: u8, n: u64, k: u64)
-    requires { ⌜ n ≤ 20 ⌝ }
-{
+fn page(kind: u8, n: u64, k: u64) {
     if kind == 1 {
         return page_forward(n, k);
     }
@@ -127,9 +123,7 @@ fn page(kind: u8, n: u64, k: u64)
 }
 
 // The same for all k of n.
-fn pages(kind: u8, n: u64)
-    requires { ⌜ n ≤ 20 ⌝ }
-{
+fn pages(kind: u8, n: u64) {
     let mut k = 0;
     while k < n {
         k += 1;

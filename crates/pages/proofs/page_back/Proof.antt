@@ -16,12 +16,6 @@ lookup-requires c κs = search needs
 open-requires : tie.Need-open-requires Inv-loop μ-loop
 open-requires c κs = search needs
 
-sub-jump : tie.Need-sub-jump Inv-loop μ-loop
-sub-jump c = search needs
-
-jump-requires : tie.Need-jump-requires Inv-loop μ-loop
-jump-requires c κs = search needs
-
 loop-holds : tie.Need-loop-holds Inv-loop μ-loop
 loop-holds c = search needs
 
@@ -37,6 +31,9 @@ loop-less c = search needs
 loop-again : tie.Need-loop-again Inv-loop μ-loop
 loop-again c = search needs
 
+print-back-requires-2 : tie.Need-print-back-requires-2 Inv-loop μ-loop
+print-back-requires-2 c κs = search needs
+
 returns : tie.Need-returns Inv-loop μ-loop
 returns c = search needs
 
@@ -48,11 +45,10 @@ page-back-spec =
     μ-loop
     lookup-requires
     open-requires
-    sub-jump
-    jump-requires
     loop-holds
     print-back-requires
     add-turn
     loop-less
     loop-again
+    print-back-requires-2
     returns)

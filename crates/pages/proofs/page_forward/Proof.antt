@@ -31,6 +31,9 @@ loop-less c = search needs
 loop-again : tie.Need-loop-again Inv-loop μ-loop
 loop-again c = search needs
 
+print-forward-requires-2 : tie.Need-print-forward-requires-2 Inv-loop μ-loop
+print-forward-requires-2 c κs = search needs
+
 returns : tie.Need-returns Inv-loop μ-loop
 returns c = search needs
 
@@ -47,4 +50,5 @@ page-forward-spec =
     add-turn
     loop-less
     loop-again
+    print-forward-requires-2
     returns)

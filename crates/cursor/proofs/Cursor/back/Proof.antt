@@ -8,7 +8,8 @@ use Rattle.stirling.specs.Count.{c as count-of}
 use Rattle.cursor.specs.Machine.{back, backward, placeBefore, refusalOf, destination}
 use Rattle.cursor.specs.Walk.{machineOf, sound}
 use Rattle.cursor.specs.declared.Cursor.{Cursor}
-use Rattle.cursor.proofs.Steps.{step-serves}
+use Rattle.cursor.proofs.Sound.{sound-on}
+use Rattle.cursor.proofs.Steps.{step-serves, step-stays, stays-alone}
 use Rattle.cursor.proofs.Outcomes.{fails, passes, called-unsound, called-refused, step-asks, step-gives, sound-count}
 use Rattle.cursor.proofs.Cursor.back.Statement.{statement}
 use Rattle.cursor.proofs.Cursor.back.Tie as tie
@@ -21,17 +22,20 @@ given c = c .before .before .args .self
 passed : (c : tie.Else1) → sound (given c) ≡ true
 passed c = passes (c .before .is-sound .ensures) (c .if1 .left)
 
--- what was looked up is the count of its list
-counted : (c : tie.After-lookup) → c .lookup .result ≡ count-of (given (c .before) .n) (given (c .before) .k)
-counted c = c .lookup .ensures ∙ sound-count (given (c .before)) (passed (c .before)) .0
+-- the place that was found is the one that the call leads to
+leads : (c : tie.After-place-before) → c .place-before .result ≡ destination (machineOf (given (c .before .before))) back
+leads c =
+    let w = given (c .before .before) in
+    c .place-before .ensures
+    ∙ ap (λ count. placeBefore count (w .place)) (c .before .lookup .ensures ∙ sound-count w (passed (c .before .before)) .0)
 
--- past the second test the list has two rows or more
-serves : (c : tie.Else2) → refusalOf (machineOf (given (c .before .before))) back ≡ 0
-serves c = step-serves (machineOf (given (c .before .before))) back backward (λ e. c .if2 .left (counted (c .before) ∙ e))
-
--- the place that was found is the machine's
-leads : (c : tie.After-place-before) → c .place-before .result ≡ destination (machineOf (given (c .before .before .before))) back
-leads c = c .place-before .ensures ∙ ap (λ count. placeBefore count (given (c .before .before .before) .place)) (counted (c .before .before))
+-- past the second test it is another place: the list has two rows or more
+serves : (c : tie.Else2) → refusalOf (machineOf (given (c .before .before .before))) back ≡ 0
+serves c =
+    let found = c .before in
+    let tested = found .before .before in
+    let m = machineOf (given tested) in
+    step-serves m back backward (λ e. c .if2 .left (leads found ∙ step-stays m back (sound-on (given tested) (passed tested)) backward e))
 
 is-sound-requires : tie.Need-is-sound-requires
 is-sound-requires c κs = search needs
@@ -47,32 +51,33 @@ returns c =
 lookup-requires : tie.Need-lookup-requires
 lookup-requires c κs = search needs
 
+place-before-requires : tie.Need-place-before-requires
+place-before-requires c κs = omega (arith, c .lookup .ensures, sound-count (given (c .before)) (passed (c .before)))
+
 refused-requires-2 : tie.Need-refused-requires-2
 refused-requires-2 c κs = search needs
 
 returns-2 : tie.Need-returns-2
 returns-2 c =
-    let looked = c .before .before in
-    let w = given (looked .before) in
-    let one : count-of (w .n) (w .k) ≡ 1 = omega (arith, counted looked, c .before .if2 .taken) in
+    let found = c .before .before in
+    let tested = found .before .before in
+    let w = given tested in
+    let same : destination (machineOf w) back ≡ w .place = omega (arith, leads found, c .before .if2 .taken) in
+    let one = stays-alone (machineOf w) back (sound-on w (passed tested)) backward same in
     let alone : refusalOf (machineOf w) back ≡ 10 = rw (eq-eqb (count-of (w .n) (w .k)) 1 one) in
-    c .refused2 .ensures ∙ sym (called-refused w back 9 (passed (looked .before)) alone)
-
-place-before-requires : tie.Need-place-before-requires
-place-before-requires c κs =
-    let tested = c .before .before in
-    omega (arith, counted (c .before), sound-count (given tested) (passed tested))
+    c .refused2 .ensures ∙ sym (called-refused w back 9 (passed tested) alone)
 
 step-to-requires : tie.Need-step-to-requires
 step-to-requires c κs =
-    let tested = c .before .before .before in
-    step-asks (given tested) back backward (passed tested) (serves (c .before)) (c .place-before .result) (leads c)
+    let found = c .before in
+    let tested = found .before .before in
+    step-asks (given tested) back backward (passed tested) (serves c) (found .place-before .result) (leads found)
 
 returns-3 : tie.Need-returns-3
 returns-3 c =
-    let found = c .before in
-    let tested = found .before .before .before in
-    c .step-to .ensures ∙ step-gives (given tested) back backward (passed tested) (serves (found .before)) (found .place-before .result) (leads found)
+    let found = c .before .before in
+    let tested = found .before .before in
+    c .step-to .ensures ∙ step-gives (given tested) back backward (passed tested) (serves (c .before)) (found .place-before .result) (leads found)
 
 pub back-spec : {M : Type 1} → statement M
 back-spec =
@@ -82,8 +87,8 @@ back-spec =
     refused-requires
     returns
     lookup-requires
+    place-before-requires
     refused-requires-2
     returns-2
-    place-before-requires
     step-to-requires
     returns-3)

@@ -8,7 +8,8 @@ use Rattle.stirling.specs.Count.{c as count-of}
 use Rattle.cursor.specs.Machine.{forward, onward, placeAfter, refusalOf, destination}
 use Rattle.cursor.specs.Walk.{machineOf, sound}
 use Rattle.cursor.specs.declared.Cursor.{Cursor}
-use Rattle.cursor.proofs.Steps.{step-serves}
+use Rattle.cursor.proofs.Sound.{sound-on}
+use Rattle.cursor.proofs.Steps.{step-serves, step-stays, stays-alone}
 use Rattle.cursor.proofs.Outcomes.{fails, passes, called-unsound, called-refused, step-asks, step-gives, sound-count}
 use Rattle.cursor.proofs.Cursor.forward.Statement.{statement}
 use Rattle.cursor.proofs.Cursor.forward.Tie as tie
@@ -21,17 +22,20 @@ given c = c .before .before .args .self
 passed : (c : tie.Else1) → sound (given c) ≡ true
 passed c = passes (c .before .is-sound .ensures) (c .if1 .left)
 
--- what was looked up is the count of its list
-counted : (c : tie.After-lookup) → c .lookup .result ≡ count-of (given (c .before) .n) (given (c .before) .k)
-counted c = c .lookup .ensures ∙ sound-count (given (c .before)) (passed (c .before)) .0
+-- the place that was found is the one that the call leads to
+leads : (c : tie.After-place-after) → c .place-after .result ≡ destination (machineOf (given (c .before .before))) forward
+leads c =
+    let w = given (c .before .before) in
+    c .place-after .ensures
+    ∙ ap (λ count. placeAfter count (w .place)) (c .before .lookup .ensures ∙ sound-count w (passed (c .before .before)) .0)
 
--- past the second test the list has two rows or more
-serves : (c : tie.Else2) → refusalOf (machineOf (given (c .before .before))) forward ≡ 0
-serves c = step-serves (machineOf (given (c .before .before))) forward onward (λ e. c .if2 .left (counted (c .before) ∙ e))
-
--- the place that was found is the machine's
-leads : (c : tie.After-place-after) → c .place-after .result ≡ destination (machineOf (given (c .before .before .before))) forward
-leads c = c .place-after .ensures ∙ ap (λ count. placeAfter count (given (c .before .before .before) .place)) (counted (c .before .before))
+-- past the second test it is another place: the list has two rows or more
+serves : (c : tie.Else2) → refusalOf (machineOf (given (c .before .before .before))) forward ≡ 0
+serves c =
+    let found = c .before in
+    let tested = found .before .before in
+    let m = machineOf (given tested) in
+    step-serves m forward onward (λ e. c .if2 .left (leads found ∙ step-stays m forward (sound-on (given tested) (passed tested)) onward e))
 
 is-sound-requires : tie.Need-is-sound-requires
 is-sound-requires c κs = search needs
@@ -47,32 +51,33 @@ returns c =
 lookup-requires : tie.Need-lookup-requires
 lookup-requires c κs = search needs
 
+place-after-requires : tie.Need-place-after-requires
+place-after-requires c κs = omega (arith, c .lookup .ensures, sound-count (given (c .before)) (passed (c .before)))
+
 refused-requires-2 : tie.Need-refused-requires-2
 refused-requires-2 c κs = search needs
 
 returns-2 : tie.Need-returns-2
 returns-2 c =
-    let looked = c .before .before in
-    let w = given (looked .before) in
-    let one : count-of (w .n) (w .k) ≡ 1 = omega (arith, counted looked, c .before .if2 .taken) in
+    let found = c .before .before in
+    let tested = found .before .before in
+    let w = given tested in
+    let same : destination (machineOf w) forward ≡ w .place = omega (arith, leads found, c .before .if2 .taken) in
+    let one = stays-alone (machineOf w) forward (sound-on w (passed tested)) onward same in
     let alone : refusalOf (machineOf w) forward ≡ 9 = rw (eq-eqb (count-of (w .n) (w .k)) 1 one) in
-    c .refused2 .ensures ∙ sym (called-refused w forward 8 (passed (looked .before)) alone)
-
-place-after-requires : tie.Need-place-after-requires
-place-after-requires c κs =
-    let tested = c .before .before in
-    omega (arith, counted (c .before), sound-count (given tested) (passed tested))
+    c .refused2 .ensures ∙ sym (called-refused w forward 8 (passed tested) alone)
 
 step-to-requires : tie.Need-step-to-requires
 step-to-requires c κs =
-    let tested = c .before .before .before in
-    step-asks (given tested) forward onward (passed tested) (serves (c .before)) (c .place-after .result) (leads c)
+    let found = c .before in
+    let tested = found .before .before in
+    step-asks (given tested) forward onward (passed tested) (serves c) (found .place-after .result) (leads found)
 
 returns-3 : tie.Need-returns-3
 returns-3 c =
-    let found = c .before in
-    let tested = found .before .before .before in
-    c .step-to .ensures ∙ step-gives (given tested) forward onward (passed tested) (serves (found .before)) (found .place-after .result) (leads found)
+    let found = c .before .before in
+    let tested = found .before .before in
+    c .step-to .ensures ∙ step-gives (given tested) forward onward (passed tested) (serves (c .before)) (found .place-after .result) (leads found)
 
 pub forward-spec : {M : Type 1} → statement M
 forward-spec =
@@ -82,8 +87,8 @@ forward-spec =
     refused-requires
     returns
     lookup-requires
+    place-after-requires
     refused-requires-2
     returns-2
-    place-after-requires
     step-to-requires
     returns-3)
