@@ -36,7 +36,8 @@ serves c =
     let tested = found .before .before in
     let w = given tested in
     let stays = step-stays (machineOf w) back (sound-on w (passed tested)) backward in
-    step-serves (machineOf w) back backward (λ e. omega (arith, c .if2 .left, leads found, stays e))
+    let count = sound-count w (passed tested) in
+    step-serves (machineOf w) back backward (λ e. omega (arith, c .if2 .left, leads found, stays e, found .before .lookup .ensures))
 
 is-sound-requires : tie.Need-is-sound-requires
 is-sound-requires c κs = search needs
