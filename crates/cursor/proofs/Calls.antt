@@ -11,7 +11,7 @@ use Rattle.stirling.specs.Count.{c, checkCycles, checkPlace}
 use Rattle.stirling.proofs.Refusals.{refuse-passed}
 use Rattle.stirling.proofs.Counts.{cycles-passes, cycles-passed, place-passed}
 use Rattle.gray.proofs.Same.{same-refl}
-use Rattle.cursor.specs.Machine.{Machine, Call, forward, back, jump, show, observe, refusalOf, destination, moved, turn, turned, machineRun}
+use Rattle.cursor.specs.Machine.{Machine, Call, forward, back, jump, show, Steps, onward, backward, observe, refusalOf, destination, moved, turn, turned, machineRun}
 use Rattle.cursor.specs.Walk.{sound, called, start, opened, callsRun, walkRun, plainRun}
 use Rattle.cursor.proofs.Ring.{after-below, before-below}
 
@@ -44,10 +44,15 @@ pub called-observe : (m : Machine) (call : Call) → OnPlace m → called (obser
 unfolding called observe
 called-observe m call on = rw (sound-observe m on)
 
--- a call that is not refused leads to a place of the list
+-- forward and back lead to a place of the list
+pub step-below : (m : Machine) {call : Call} → OnPlace m → Steps call → destination m call < c (m .n) (m .k)
+step-below m on onward = after-below (c (m .n) (m .k)) (m .place) (on .below)
+step-below m on backward = before-below (c (m .n) (m .k)) (m .place) (on .below)
+
+-- and so does every call that is not refused
 pub destination-below : (m : Machine) (call : Call) → OnPlace m → refusalOf m call ≡ 0 → destination m call < c (m .n) (m .k)
-destination-below m forward on e = after-below (c (m .n) (m .k)) (m .place) (on .below)
-destination-below m back on e = before-below (c (m .n) (m .k)) (m .place) (on .below)
+destination-below m forward on e = step-below m on onward
+destination-below m back on e = step-below m on backward
 destination-below m show on e = on .below
 destination-below m (jump r) on e = leb-false (c (m .n) (m .k)) r (refuse-passed (leb (c (m .n) (m .k)) r) 2 e)
 

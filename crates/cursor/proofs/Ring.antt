@@ -61,24 +61,6 @@ module _ (count place : ℕ) (h : place < count) where
           let f = before-other count place d in
           after-other count (placeBefore count place) (λ g. omega arith) ∙ omega arith
 
-  -- either leads to the place itself where there is no other
+  -- the place after the only one is that one
   pub after-alone : count ≡ 1 → placeAfter count place ≡ place
   after-alone e = after-last count place (omega arith) ∙ omega arith
-
-  pub before-alone : count ≡ 1 → placeBefore count place ≡ place
-  before-alone e = before-first count place (omega arith) ∙ omega arith
-
-  -- and only there
-  pub alone-after : placeAfter count place ≡ place → count ≡ 1
-  alone-after e = go (ℕ-discrete (place + 1) count)
-    where
-      go : Dec (place + 1 ≡ count) → count ≡ 1
-      go (yes f) = omega (arith, after-last count place f)
-      go (no d) = absurd (omega (arith, after-other count place d))
-
-  pub alone-before : placeBefore count place ≡ place → count ≡ 1
-  alone-before e = go (ℕ-discrete place 0)
-    where
-      go : Dec (place ≡ 0) → count ≡ 1
-      go (yes f) = omega (arith, before-first count place f)
-      go (no d) = absurd (omega (arith, before-other count place d))

@@ -12,17 +12,15 @@ use Rattle.stirling.specs.Count.{c, checkCycles}
 use Rattle.gray.specs.Order.{Row, S}
 use Rattle.gray.specs.Listing.{rowAt, HasCycles}
 use Rattle.gray.proofs.Once.{length-S, complete}
-use Rattle.cursor.specs.Machine.{Machine, Call, forward, back, Steps, onward, backward, observe, placeAfter, refusalOf, destination, moved, turn, bare, stepped, given, answered}
+use Rattle.cursor.specs.Machine.{Machine, Call, forward, back, Steps, onward, backward, observe, placeAfter, refusalOf, destination, moved, turn, bare, stepTo, given, answered}
 use Rattle.cursor.specs.Walk.{machineOf, sound, called, start, forwards, permutationOf, Round}
 use Rattle.cursor.specs.declared.Cursor.{Cursor}
 use Rattle.cursor.specs.declared.Answer.{Answer}
-use Rattle.cursor.proofs.Ring.{after-last, after-other, before-first, after-below}
-use Rattle.cursor.proofs.Calls.{OnPlace, on-moved, sound-observe, called-observe, start-on}
+use Rattle.cursor.proofs.Ring.{after-last, after-other, before-first, after-below, after-alone}
+use Rattle.cursor.proofs.Calls.{OnPlace, on-moved, called-observe, start-on}
 use Rattle.cursor.proofs.Padding.{take-shown}
-use Rattle.cursor.proofs.Steps.{step-serves, step-stays}
 use Rattle.cursor.proofs.Sound.{sound-on, sound-shows}
-use Rattle.cursor.proofs.Outcomes.{step-gives}
-use Rattle.cursor.proofs.Undone.{turn-stays, turn-moves, called-turned}
+use Rattle.cursor.proofs.Undone.{turn-stays, turn-moves, answer-step, called-turned}
 
 -- the refusal that an answer reports is the machine's
 unless-bare : (r : ℕ) (a : Answer) → a .refusal ≡ 0 → unless r a (bare r) .refusal ≡ r
@@ -42,20 +40,16 @@ refused-alone w e =
 -- forward from the last place leads to place 0, and back from place 0 to the last
 module _ (n k : ℕ) (e : checkCycles n k ≡ 0) (two : 2 ≤ c n k) where
   goes : (from to : ℕ) (call : Call) → Steps call → from < c n k → destination (moved (start n k) from) call ≡ to
-      → called (observe (moved (start n k) from)) call
-      ≡ record { cursor = observe (moved (start n k) to); answer = stepped (rowAt (S n k) from) (rowAt (S n k) to) }
-  unfolding observe
+      → called (observe (moved (start n k) from)) call ≡ stepTo (moved (start n k) from) to
   goes from to call kind h g =
       let m = moved (start n k) from in
-      let on = on-moved (start n k) (start-on n k e) from h in
-      sym (step-gives (observe m) call kind (sound-observe m on) (step-serves m call kind (λ f. omega arith)) to (sym g))
+      let d : c n k ≡ 1 → ⊥ = λ one. omega arith in
+      called-observe m call (on-moved (start n k) (start-on n k e) from h) ∙ rw (turn-moves m call kind d, answer-step m call kind d, g)
 
-  pub last-to-first : called (observe (moved (start n k) (c n k - 1))) forward
-      ≡ record { cursor = observe (start n k); answer = stepped (rowAt (S n k) (c n k - 1)) (rowAt (S n k) 0) }
+  pub last-to-first : called (observe (moved (start n k) (c n k - 1))) forward ≡ stepTo (moved (start n k) (c n k - 1)) 0
   last-to-first = goes (c n k - 1) 0 forward onward (omega arith) (after-last (c n k) (c n k - 1) (omega arith))
 
-  pub first-to-last : called (observe (start n k)) back
-      ≡ record { cursor = observe (moved (start n k) (c n k - 1)); answer = stepped (rowAt (S n k) 0) (rowAt (S n k) (c n k - 1)) }
+  pub first-to-last : called (observe (start n k)) back ≡ stepTo (start n k) (c n k - 1)
   first-to-last = goes 0 (c n k - 1) back backward (omega arith) (before-first (c n k) 0 refl)
 
 -- a forward leads to the place after, on a list of one permutation too, where that is the place itself
@@ -63,7 +57,7 @@ turn-forward : (m : Machine) → OnPlace m → turn m forward ≡ moved m (place
 turn-forward m on = go (ℕ-discrete (c (m .n) (m .k)) 1)
   where
     go : Dec (c (m .n) (m .k) ≡ 1) → turn m forward ≡ moved m (placeAfter (c (m .n) (m .k)) (m .place))
-    go (yes e) = turn-stays m forward onward e ∙ ap (moved m) (sym (step-stays m forward on onward e))
+    go (yes e) = turn-stays m forward onward e ∙ ap (moved m) (sym (after-alone (c (m .n) (m .k)) (m .place) (on .below) e))
     go (no d) = turn-moves m forward onward d
 
 -- q lies t places on from a place among so many, past the last one or not

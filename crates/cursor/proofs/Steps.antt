@@ -19,8 +19,8 @@ use Rattle.gray.specs.Listing.{rowAt, Positions, Near}
 use Rattle.gray.proofs.Once.{length-S, complete}
 use Rattle.gray.proofs.Neighbours.{neighbours, closed}
 use Rattle.cursor.specs.Machine.{Machine, Call, forward, back, Steps, onward, backward, rowOf, placeAfter, refusalOf, destination, moved, turn, firstFrom, stepI, stepJ, stepL, IsStep, Reversed, stepped, answered}
-use Rattle.cursor.proofs.Ring.{after-last, after-other, after-before, after-alone, before-alone, alone-after, alone-before}
-use Rattle.cursor.proofs.Calls.{OnPlace, on-moved, destination-below}
+use Rattle.cursor.proofs.Ring.{after-last, after-other, after-before}
+use Rattle.cursor.proofs.Calls.{OnPlace, on-moved, step-below}
 use Rattle.cursor.proofs.Rotate.{back-positions, length-rotate, at-rotate-i, at-rotate-j, at-rotate-other, rotate-back, near-back, from-smallest}
 
 -- the first index where two rows differ, as a position
@@ -86,16 +86,6 @@ pub step-served : (m : Machine) (call : Call) → Steps call → refusalOf m cal
 step-served m _ onward e = eqb-false (c (m .n) (m .k)) 1 (refuse-passed (eqb (c (m .n) (m .k)) 1) 8 e)
 step-served m _ backward e = eqb-false (c (m .n) (m .k)) 1 (refuse-passed (eqb (c (m .n) (m .k)) 1) 9 e)
 
--- on a list of one permutation a step would stay
-pub step-stays : (m : Machine) (call : Call) → OnPlace m → Steps call → c (m .n) (m .k) ≡ 1 → destination m call ≡ m .place
-step-stays m _ on onward = after-alone (c (m .n) (m .k)) (m .place) (on .below)
-step-stays m _ on backward = before-alone (c (m .n) (m .k)) (m .place) (on .below)
-
--- and on no other
-pub stays-alone : (m : Machine) (call : Call) → OnPlace m → Steps call → destination m call ≡ m .place → c (m .n) (m .k) ≡ 1
-stays-alone m _ on onward = alone-after (c (m .n) (m .k)) (m .place) (on .below)
-stays-alone m _ on backward = alone-before (c (m .n) (m .k)) (m .place) (on .below)
-
 -- a row of a list of two or more is near the one at the place after, the last one near the first
 after-near : (n k place : ℕ) → place < c n k → (c n k ≡ 1 → ⊥) → Near n (rowAt (S n k) place) (rowAt (S n k) (placeAfter (c n k) place))
 after-near n k place h d = go (ℕ-discrete (place + 1) (c n k))
@@ -111,7 +101,7 @@ pub turn-near : (m : Machine) (call : Call) → OnPlace m → Steps call → ref
 turn-near m _ on onward e = after-near (m .n) (m .k) (m .place) (on .below) (step-served m forward onward e)
 turn-near m _ on backward e =
     let place = destination m back in
-    let below = destination-below m back on e in
+    let below = step-below m on backward in
     let near = after-near (m .n) (m .k) place below (step-served m back backward e) in
     near-back
     (row-permutation (moved m place) (on-moved m on place below) .size)

@@ -44,7 +44,7 @@ module _ (m : Machine) (call : Call) (kind : Steps call) where
   unfolding turn
   turn-moves d = unless-passes (refusalOf m call) _ m (step-serves m call kind d)
 
-  answer-step : (c (m .n) (m .k) ≡ 1 → ⊥) → answered m call ≡ stepped (rowOf m) (rowOf (moved m (destination m call)))
+  pub answer-step : (c (m .n) (m .k) ≡ 1 → ⊥) → answered m call ≡ stepped (rowOf m) (rowOf (moved m (destination m call)))
   unfolding answered
   answer-step d = unless-passes (refusalOf m call) _ _ (step-serves m call kind d) ∙ given-step m kind
 

@@ -129,6 +129,10 @@ stepped old new = record {
   fixed = 0;
 }
 
+-- the record at another place, and the step from the row here to the row there
+abbrev pub stepTo : Machine → ℕ → Step
+stepTo m place = record { cursor = observe (moved m place); answer = stepped (rowOf m) (rowOf (moved m place)) }
+
 -- what show hands out: place, permutation, array, and, as document 02, e), has it, the number of fixed points of that permutation
 abbrev pub shown : Machine → Answer
 shown m = record {

@@ -2,6 +2,7 @@
 ghost use mathlib.Core.Path.{_≡_};
 ghost use mathlib.Core.Bool.{true, cond};
 ghost use Prim.Native.Nat.{_<_};
+ghost use lib.Dec.{eqb};
 ghost use lib.ListN.{length, getD, take};
 ghost use Rattle.stirling.specs.Count.{c, checkSize, checkPlace};
 ghost use Rattle.perm.specs.Lists.{same};
@@ -9,7 +10,7 @@ ghost use Rattle.perm.specs.Permutation.{IsPermutation, fixed};
 ghost use Rattle.perm.specs.Array.{position, arrayOf};
 ghost use Rattle.gray.specs.Order.{S};
 ghost use Rattle.gray.specs.Listing.{rowAt, Near};
-ghost use Rattle.cursor.specs.Machine.{padded, observe, rowOf, placeAfter, placeBefore, moved, firstFrom, bare, stepped, forward, back, jump, show};
+ghost use Rattle.cursor.specs.Machine.{padded, observe, rowOf, placeAfter, placeBefore, moved, firstFrom, bare, stepped, stepTo, forward, back, jump, show};
 ghost use Rattle.cursor.specs.Walk.{machineOf, sound, called, start, opened, decode, decoded, replayed};
 
 // Check 8: a record that is not one that the calls hand back.
@@ -257,10 +258,7 @@ fn refused(w: Cursor, refusal: u8) -> Step
 // A step to a neighbouring place.
 fn step_to(w: Cursor, place: u64) -> Step
     requires { ⌜ (sound w ≡ true) × (place < c (w .n) (w .k)) × Near (w .n) (rowOf (machineOf w)) (rowOf (moved (machineOf w) place)) ⌝ }
-    ensures { λ r. ⌜ r ≡ record {
-      cursor = observe (moved (machineOf w) place);
-      answer = stepped (rowOf (machineOf w)) (rowOf (moved (machineOf w) place));
-    } ⌝ }
+    ensures { λ r. ⌜ r ≡ stepTo (machineOf w) place ⌝ }
 {
     let size = w.n as usize;
     let cursor = cursor_at(w.n, w.k, place);
@@ -270,7 +268,23 @@ fn step_to(w: Cursor, place: u64) -> Step
     Step { cursor, answer }
 }
 
-// The place after one of so many: past the last it is place 0. Only where there is no other is it the place itself.
+// A step on a list of so many permutations to the place before or after; on a list of one, which has no other place, a refusal.
+fn ring_step(w: Cursor, count: u64, place: u64, alone: u8) -> Step
+    requires { ⌜
+        (sound w ≡ true)
+        × (place < c (w .n) (w .k))
+        × (count ≡ c (w .n) (w .k))
+        × ((count ≡ 1 → ⊥) → Near (w .n) (rowOf (machineOf w)) (rowOf (moved (machineOf w) place)))
+        ⌝ }
+    ensures { λ r. ⌜ r ≡ cond (eqb count 1) (record { cursor = w; answer = bare alone }) (stepTo (machineOf w) place) ⌝ }
+{
+    if count == 1 {
+        return refused(w, alone);
+    }
+    step_to(w, place)
+}
+
+// The place after one of so many: past the last it is place 0.
 fn place_after(count: u64, place: u64) -> u64
     requires { ⌜ place < count ⌝ }
     ensures { λ r. ⌜ r ≡ placeAfter count place ⌝ }
@@ -279,7 +293,7 @@ fn place_after(count: u64, place: u64) -> u64
     if next == count { 0 } else { next }
 }
 
-// The place before one of so many: before place 0 it is the last. Only where there is no other is it the place itself.
+// The place before one of so many: before place 0 it is the last.
 fn place_before(count: u64, place: u64) -> u64
     requires { ⌜ place < count ⌝ }
     ensures { λ r. ⌜ r ≡ placeBefore count place ⌝ }
@@ -319,13 +333,9 @@ impl Cursor {
         if !is_sound(self) {
             return refused(self, REFUSED_RECORD);
         }
-        let place = self.place;
         let count = stirling::lookup(self.n, self.k);
-        let next = place_after(count, place);
-        if next == place {
-            return refused(self, REFUSED_LAST);
-        }
-        step_to(self, next)
+        let next = place_after(count, self.place);
+        ring_step(self, count, next, REFUSED_LAST)
     }
 
     // To the place before, from place 0 to the last, with the three positions of the step. Refusals 8 and 10.
@@ -335,13 +345,9 @@ impl Cursor {
         if !is_sound(self) {
             return refused(self, REFUSED_RECORD);
         }
-        let place = self.place;
         let count = stirling::lookup(self.n, self.k);
-        let previous = place_before(count, place);
-        if previous == place {
-            return refused(self, REFUSED_FIRST);
-        }
-        step_to(self, previous)
+        let previous = place_before(count, self.place);
+        ring_step(self, count, previous, REFUSED_FIRST)
     }
 
     // To any place. Refusals 8 and 3.

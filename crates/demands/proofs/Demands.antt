@@ -23,7 +23,7 @@ use Rattle.perm.proofs.Cases as FixedPoints
 use Rattle.gray.specs.declared.Block.the-variants.{Extend as E}
 use Rattle.gray.specs.Order.{Row, S, letter}
 use Rattle.gray.specs.Blocks.{blocks}
-use Rattle.gray.specs.Listing.{rowAt, HasCycles, Complete, Neighbours, Closed}
+use Rattle.gray.specs.Listing.{HasCycles, Complete, Neighbours, Closed}
 use Rattle.gray.proofs.Once as Once
 use Rattle.gray.proofs.Neighbours as Neighbours
 use Rattle.gray.proofs.Cases as Cases
@@ -60,7 +60,7 @@ use Rattle.inversion.proofs.Cases as Inversions
 use Rattle.sequences.specs.Listed.{Made, CompleteLows}
 use Rattle.sequences.proofs.Listed.{lows-cycles, sequences-of, one-list, complete-lows, length-sequences}
 use Rattle.cursor.specs.declared.Cursor.{Cursor}
-use Rattle.cursor.specs.Machine.{Machine, Call, forward, back, show, Steps, observe, rowOf, refusalOf, moved, turn, IsStep, stepped, answered}
+use Rattle.cursor.specs.Machine.{Machine, Call, forward, back, show, Steps, observe, rowOf, refusalOf, moved, turn, IsStep, stepTo, answered}
 use Rattle.cursor.specs.Walk.{sound, called, start, walkRun, plainRun, Undone, Round}
 use Rattle.cursor.proofs.Calls as Calls
 use Rattle.cursor.proofs.Calls.{placed}
@@ -324,14 +324,12 @@ inversion-cases = Inversions.table
 
 -- forward from the last place of a list of two rows or more hands back the record of place 0, with the three positions of the step from the last row to the first
 pub last-to-first : (n k : ℕ) → checkCycles n k ≡ 0 → 2 ≤ c n k
-    → called (observe (moved (start n k) (c n k - 1))) forward
-    ≡ record { cursor = observe (start n k); answer = stepped (rowAt (S n k) (c n k - 1)) (rowAt (S n k) 0) }
+    → called (observe (moved (start n k) (c n k - 1))) forward ≡ stepTo (moved (start n k) (c n k - 1)) 0
 last-to-first = Round.last-to-first
 
 -- and back from place 0 that of the last place, with those from the first row to the last
 pub first-to-last : (n k : ℕ) → checkCycles n k ≡ 0 → 2 ≤ c n k
-    → called (observe (start n k)) back
-    ≡ record { cursor = observe (moved (start n k) (c n k - 1)); answer = stepped (rowAt (S n k) 0) (rowAt (S n k) (c n k - 1)) }
+    → called (observe (start n k)) back ≡ stepTo (start n k) (c n k - 1)
 first-to-last = Round.first-to-last
 
 -- on a record that passes check 8 forward is refused 9 and back 10 on a list of one permutation, the empty list of n = 0 among them, and on no other
