@@ -61,9 +61,9 @@ turn-forward m on = go (ℕ-discrete (c (m .n) (m .k)) 1)
     go (no d) = turn-moves m forward onward d
 
 -- q lies t places on from a place among so many, past the last one or not
-pub record Onwards (count place t q : ℕ) : Type 0 where
-  pub below : q < count
-  pub on : (q ≡ place + t) ⊎ (q + count ≡ place + t)
+record Onwards (count place t q : ℕ) : Type 0 where
+  below : q < count
+  on : (q ≡ place + t) ⊎ (q + count ≡ place + t)
 
 -- and the place after it lies one more on
 onwards-suc : {count place t q : ℕ} → place < count → t < count → Onwards count place t q → Onwards count place (suc t) (placeAfter count q)

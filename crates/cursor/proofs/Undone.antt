@@ -1,8 +1,6 @@
 -- Forward and back undo each other (document 02, g): on every record, whether they are refused on it or not. Assumes nothing.
 use mathlib.Core.Path.{_≡_, refl, sym, ap, _∙_}
 use mathlib.Core.Bool.{true, false}
-use Prim.Native.Nat.{ℕ}
-use native.Mathlib.Omega.{arith}
 use native.Mathlib.Decide.{ℕ-discrete}
 use borrow.Table.Steps.{cases}
 use Rattle.stirling.specs.Count.{c}
