@@ -1,10 +1,8 @@
 -- What a call on a record gives, one law for each outcome: the record fails check 8, the call is refused, or it moves. Assumes nothing.
 use mathlib.Core.Path.{_≡_, refl, sym, ap, _∙_}
-use mathlib.Core.Bool.{Bool, true, false, not, cond}
+use mathlib.Core.Bool.{Bool, true, false, not}
 use Prim.Native.Nat.{ℕ, suc, _^_, _<_}
-use native.Mathlib.Decide.{ℕ-discrete}
-use lib.Dec.{eqb}
-use borrow.Author.Tests.{not-true, not-false, eq-eqb, ne-eqb}
+use borrow.Author.Tests.{not-true, not-false, eq-eqb}
 use Rattle.stirling.specs.Count.{c, lookupOf}
 use Rattle.stirling.proofs.Counts.{cycles-passed, looked-up, fits}
 use Rattle.perm.specs.Permutation.{fixed}
@@ -13,7 +11,6 @@ use Rattle.cursor.specs.Machine.{Machine, Call, forward, back, show, Ste
 use Rattle.cursor.specs.Walk.{machineOf, sound, called}
 use Rattle.cursor.specs.declared.Cursor.{Cursor}
 use Rattle.cursor.specs.declared.Answer.{Answer}
-use Rattle.cursor.specs.declared.Step.{Step}
 use Rattle.cursor.proofs.Calls.{step-below}
 use Rattle.cursor.proofs.Steps.{step-serves, turn-near}
 use Rattle.cursor.proofs.Sound.{sound-on, sound-shows}
@@ -54,34 +51,24 @@ module _ (w : Cursor) (call : Call) where
   called-moves e f = rw (e, f)
 
 -- forward and back are refused on a list of one permutation
-called-alone : (w : Cursor) {call : Call} (kind : Steps call) → sound w ≡ true → c (w .n) (w .k) ≡ 1
+pub called-alone : (w : Cursor) {call : Call} (kind : Steps call) → sound w ≡ true → c (w .n) (w .k) ≡ 1
     → called w call ≡ record { cursor = w; answer = bare (alone kind) }
 called-alone w onward e one = called-refused w forward 8 e (rw (eq-eqb (c (w .n) (w .k)) 1 one))
 called-alone w backward e one = called-refused w back 9 e (rw (eq-eqb (c (w .n) (w .k)) 1 one))
 
--- forward and back on a record that passes check 8, by the count of its list and the place that they lead to
-module _ (w : Cursor) (call : Call) (kind : Steps call) (e : sound w ≡ true) (count place : ℕ) (f : count ≡ c (w .n) (w .k))
+-- and on every other
+module _ (w : Cursor) {call : Call} (kind : Steps call) (e : sound w ≡ true) (d : c (w .n) (w .k) ≡ 1 → ⊥) (place : ℕ)
     (g : place ≡ destination (machineOf w) call) where
-  -- that place is one of the list, and where the list has two rows or more the row there is near
-  pub step-asks : (sound w ≡ true)
-      × (place < c (w .n) (w .k))
-      × (count ≡ c (w .n) (w .k))
-      × ((count ≡ 1 → ⊥) → Near (w .n) (rowOf (machineOf w)) (rowOf (moved (machineOf w) place)))
+  -- they lead to a place of the list, where the row is near
+  pub step-asks : (sound w ≡ true) × (place < c (w .n) (w .k)) × Near (w .n) (rowOf (machineOf w)) (rowOf (moved (machineOf w) place))
   step-asks =
       let m = machineOf w in
       let on = sound-on w e in
-      rw g (e, step-below m on kind, f, λ d. turn-near m call on kind (step-serves m call kind (λ one. d (f ∙ one))))
+      rw g (e, step-below m on kind, turn-near m call on kind (step-serves m call kind d))
 
-  -- and what gives a refusal on a list of one, and on every other the step, gives what they give
-  pub step-gives : {r : Step} → r ≡ cond (eqb count 1) (record { cursor = w; answer = bare (alone kind) }) (stepTo (machineOf w) place)
-      → r ≡ called w call
-  step-gives {r} h = go (ℕ-discrete count 1)
-    where
-      go : Dec (count ≡ 1) → r ≡ called w call
-      go (yes one) = rw (eq-eqb count 1 one) at h ∙ sym (called-alone w kind e (sym f ∙ one))
-      go (no d) =
-          let served = step-serves (machineOf w) call kind (λ one. d (f ∙ one)) in
-          rw (called-moves w call e served, given-step (machineOf w) kind) (rw (ne-eqb count 1 d, g) at h)
+  -- and give the record there, with the step between the rows
+  pub step-gives : stepTo (machineOf w) place ≡ called w call
+  step-gives = rw (g, called-moves w call e (step-serves (machineOf w) call kind d), given-step (machineOf w) kind)
 
 -- place, permutation and array as a record holds them, a number of fixed points, and zeros for the rest
 abbrev pub held : Cursor → ℕ → Answer

@@ -2,7 +2,6 @@
 ghost use mathlib.Core.Path.{_≡_};
 ghost use mathlib.Core.Bool.{true, cond};
 ghost use Prim.Native.Nat.{_<_};
-ghost use lib.Dec.{eqb};
 ghost use lib.ListN.{length, getD, take};
 ghost use Rattle.stirling.specs.Count.{c, checkSize, checkPlace};
 ghost use Rattle.perm.specs.Lists.{same};
@@ -268,37 +267,33 @@ fn step_to(w: Cursor, place: u64) -> Step
     Step { cursor, answer }
 }
 
-// A step on a list of so many permutations to the place before or after; on a list of one, which has no other place, a refusal.
-fn ring_step(w: Cursor, count: u64, place: u64, alone: u8) -> Step
-    requires { ⌜
-        (sound w ≡ true)
-        × (place < c (w .n) (w .k))
-        × (count ≡ c (w .n) (w .k))
-        × ((count ≡ 1 → ⊥) → Near (w .n) (rowOf (machineOf w)) (rowOf (moved (machineOf w) place)))
-        ⌝ }
-    ensures { λ r. ⌜ r ≡ cond (eqb count 1) (record { cursor = w; answer = bare alone }) (stepTo (machineOf w) place) ⌝ }
+// The place after one of so many, or the one before it: past the last it is place 0, and before place 0 the last.
+fn place_beside(count: u64, place: u64, onward: bool) -> u64
+    requires { ⌜ (place < count) × (1 < count) ⌝ }
+    ensures { λ r. ⌜ r ≡ cond onward (placeAfter count place) (placeBefore count place) ⌝ }
 {
-    if count == 1 {
-        return refused(w, alone);
+    if onward {
+        let next = place + 1;
+        return if next == count { 0 } else { next };
     }
-    step_to(w, place)
-}
-
-// The place after one of so many: past the last it is place 0.
-fn place_after(count: u64, place: u64) -> u64
-    requires { ⌜ place < count ⌝ }
-    ensures { λ r. ⌜ r ≡ placeAfter count place ⌝ }
-{
-    let next = place + 1;
-    if next == count { 0 } else { next }
-}
-
-// The place before one of so many: before place 0 it is the last.
-fn place_before(count: u64, place: u64) -> u64
-    requires { ⌜ place < count ⌝ }
-    ensures { λ r. ⌜ r ≡ placeBefore count place ⌝ }
-{
     if place == 0 { count - 1 } else { place - 1 }
+}
+
+// Forward, or back: a step round the list, which a list of one permutation refuses.
+fn ring_step(w: Cursor, onward: bool) -> Step
+    ensures { λ r. ⌜ r ≡ called w (cond onward forward back) ⌝ }
+{
+    if !is_sound(w) {
+        return refused(w, REFUSED_RECORD);
+    }
+    let count = stirling::lookup(w.n, w.k);
+    if count == 1 {
+        if onward {
+            return refused(w, REFUSED_LAST);
+        }
+        return refused(w, REFUSED_FIRST);
+    }
+    step_to(w, place_beside(count, w.place, onward))
 }
 
 impl Cursor {
@@ -330,24 +325,14 @@ impl Cursor {
     pub fn forward(self) -> Step
         ensures { λ r. ⌜ r ≡ called self forward ⌝ }
     {
-        if !is_sound(self) {
-            return refused(self, REFUSED_RECORD);
-        }
-        let count = stirling::lookup(self.n, self.k);
-        let next = place_after(count, self.place);
-        ring_step(self, count, next, REFUSED_LAST)
+        ring_step(self, true)
     }
 
     // To the place before, from place 0 to the last, with the three positions of the step. Refusals 8 and 10.
     pub fn back(self) -> Step
         ensures { λ r. ⌜ r ≡ called self back ⌝ }
     {
-        if !is_sound(self) {
-            return refused(self, REFUSED_RECORD);
-        }
-        let count = stirling::lookup(self.n, self.k);
-        let previous = place_before(count, self.place);
-        ring_step(self, count, previous, REFUSED_FIRST)
+        ring_step(self, false)
     }
 
     // To any place. Refusals 8 and 3.
