@@ -43,7 +43,9 @@ counted c = c .lookup .ensures ∙ sound-count (given (c .before)) (passed (c .b
 
 -- taken, the second test says that the list has one permutation
 one : (c : tie.Then2) → count-of (given (c .before .before) .n) (given (c .before .before) .k) ≡ 1
-one c = omega (arith, counted (c .before), c .if2 .taken)
+one c =
+    let tested = c .before .before in
+    omega (arith, counted (c .before), sound-count (given tested) (passed tested), c .if2 .taken)
 
 -- left, that it has others
 others : (c : tie.Else2) → count-of (given (c .before .before) .n) (given (c .before .before) .k) ≡ 1 → ⊥
