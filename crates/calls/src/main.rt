@@ -1,5 +1,5 @@
 // Makes lists of calls on a cursor, one to a line of standard input, and prints each line with the whole record and the whole answer that the call hands back,
-// padding included. `open n k` begins a list; then `forward`, `back`, `jump place` and `show`, each on the record that the line before handed back. `stdout` comes
+// padding included. `open n k`, or `open n k lowest highest`, begins a list; then `forward`, `back`, `jump place` and `show`, each on the record that the line before handed back. `stdout` comes
 // from another author's generator, and `stdin` is the calls in it.
 use cursor::Answer;
 use cursor::Cursor;
@@ -42,6 +42,8 @@ fn print_cursor(w: Cursor) {
     print_field(w.n);
     print_field(w.k);
     print_field(w.place);
+    print_field(w.lowest);
+    print_field(w.highest);
     print_pair(perm, array);
 }
 
@@ -86,6 +88,29 @@ fn number_after(line: &[u8], space: usize) -> u64 {
     value
 }
 
+// How many spaces a line has.
+fn spaces_in(line: &[u8]) -> usize {
+    let mut met = 0;
+    let mut i = 0;
+    while i < line.len() {
+        if line[i] == b' ' {
+            met += 1;
+        }
+        i += 1;
+    }
+    met
+}
+
+// The open that a line asks for: of a section if it names more than n and k.
+fn make_opening(line: &[u8]) -> Step {
+    let n = number_after(line, 1);
+    let k = number_after(line, 2);
+    if spaces_in(line) > 2 {
+        return Cursor::open_section(n, k, number_after(line, 3), number_after(line, 4));
+    }
+    Cursor::open(n, k)
+}
+
 // The call that a line asks for, by its first letter.
 fn make_call(w: Cursor, line: &[u8]) -> Step {
     if line.len() == 0 {
@@ -93,7 +118,7 @@ fn make_call(w: Cursor, line: &[u8]) -> Step {
     }
     let letter = line[0];
     if letter == b'o' {
-        return Cursor::open(number_after(line, 1), number_after(line, 2));
+        return make_opening(line);
     }
     if letter == b'f' {
         return w.forward();

@@ -1,19 +1,22 @@
--- Demand 3's claim about every list of calls: after the open and after each call, the record and the answer are the plain machine's.
--- The machine stays within its list, and a record that shows it passes check 8. Assumes nothing.
-use mathlib.Core.Path.{_≡_, refl}
-use mathlib.Core.Bool.{true}
+-- Demand 3's claim about every list of calls: after either open and after each call, the record and the answer are the plain machine's.
+-- The machine stays within its section, and a record that shows it passes check 8. Assumes nothing.
+use mathlib.Core.Path.{_≡_, refl, ap, _∙_}
+use mathlib.Core.Bool.{true, not}
 use mathlib.Core.List.{List, [], _∷_}
-use Prim.Native.Nat.{ℕ, zero, suc, _<_}
-use lib.Dec.{leb}
-use borrow.Author.Tests.{lt-leb, leb-false}
-use Rattle.stirling.specs.Refusal.{unless}
+use Prim.Native.Nat.{ℕ, zero, suc, _-_, _≤_, _<_}
+use native.Mathlib.Omega.{arith}
+use lib.Dec.{leb, ltb}
+use borrow.Author.Tests.{lt-leb, le-ltb, ltb-false, not-false}
+use Rattle.stirling.specs.Refusal.{refuse, _then_, unless, within}
 use Rattle.stirling.specs.Count.{c, checkCycles, checkPlace}
-use Rattle.stirling.proofs.Refusals.{refuse-passed}
-use Rattle.stirling.proofs.Counts.{cycles-passes, cycles-passed, place-passed}
+use Rattle.stirling.proofs.Refusals.{refuse-passed, then-passed, within-holds, within-true}
+use Rattle.stirling.proofs.Counts.{cycles-passes, cycles-passed, place-passes, place-passed}
 use Rattle.gray.proofs.Same.{same-refl}
-use Rattle.cursor.specs.Machine.{Machine, Call, forward, back, jump, show, Steps, onward, backward, observe, refusalOf, destination, moved, turn, turned, machineRun}
-use Rattle.cursor.specs.Walk.{sound, called, start, opened, callsRun, walkRun, plainRun}
-use Rattle.cursor.proofs.Ring.{after-below, before-below}
+use Rattle.cursor.specs.declared.Opening.{Opening}
+use Rattle.cursor.specs.declared.Opening.the-variants.{Whole, Section}
+use Rattle.cursor.specs.Machine.{Machine, InSection, Call, forward, back, jump, show, Steps, onward, backward, observe, refusalOf, destination, moved, turn, turned, machineRun}
+use Rattle.cursor.specs.Walk.{sound, called, section, start, startOf, checkOpening, opened, callsRun, walkRun, plainRun}
+use Rattle.cursor.proofs.Ring.{after-within, before-within}
 
 -- a machine on a place of a list
 pub record OnPlace (m : Machine) : Type 0 where
@@ -34,56 +37,93 @@ placed n k place e =
     let (small, below) = place-passed n k place e in
     record { cycles = cycles-passes n k place small below; below = below }
 
--- a record that shows a machine on its place passes check 8
-pub sound-observe : (m : Machine) → OnPlace m → sound (observe m) ≡ true
+-- a machine in its section is on a place of its list
+pub in-on : (m : Machine) → InSection m → OnPlace m
+in-on m inside = record { cycles = inside .cycles; below = omega (arith, inside .high, inside .last) }
+
+-- and at another place of the section it is in it too
+pub in-moved : (m : Machine) → InSection m → (place : ℕ) → (m .lowest ≤ place) × (place ≤ m .highest) → InSection (moved m place)
+in-moved m inside place h = record { cycles = inside .cycles; low = h .0; high = h .1; last = inside .last }
+
+-- a record that shows a machine in its section passes check 8
+pub sound-observe : (m : Machine) → InSection m → sound (observe m) ≡ true
 unfolding sound observe
-sound-observe m on = simp (on-passes m on, same-refl)
+sound-observe m inside =
+    let n = m .n in
+    let k = m .k in
+    let passes = place-passes n k (m .highest) (cycles-passed n k (inside .cycles) .0) (inside .last) in
+    simp (passes, within-holds (m .lowest) (m .highest) (m .place) (inside .low) (inside .high), same-refl)
 
 -- a call on it gives what the machine shows after the call
-pub called-observe : (m : Machine) (call : Call) → OnPlace m → called (observe m) call ≡ turned m call
+pub called-observe : (m : Machine) (call : Call) → InSection m → called (observe m) call ≡ turned m call
 unfolding called observe
-called-observe m call on = rw (sound-observe m on)
+called-observe m call inside = rw (sound-observe m inside)
 
--- forward and back lead to a place of the list
-pub step-below : (m : Machine) {call : Call} → OnPlace m → Steps call → destination m call < c (m .n) (m .k)
-step-below m on onward = after-below (c (m .n) (m .k)) (m .place) (on .below)
-step-below m on backward = before-below (c (m .n) (m .k)) (m .place) (on .below)
+-- forward and back lead to a place of the section
+pub step-in : (m : Machine) {call : Call} → InSection m → Steps call → InSection (moved m (destination m call))
+step-in m inside onward = in-moved m inside _ (after-within (m .lowest) (m .highest) (m .place) (inside .low) (inside .high))
+step-in m inside backward = in-moved m inside _ (before-within (m .lowest) (m .highest) (m .place) (inside .low) (inside .high))
 
 -- and so does every call that is not refused
-pub destination-below : (m : Machine) (call : Call) → OnPlace m → refusalOf m call ≡ 0 → destination m call < c (m .n) (m .k)
-destination-below m forward on e = step-below m on onward
-destination-below m back on e = step-below m on backward
-destination-below m show on e = on .below
-destination-below m (jump r) on e = leb-false (c (m .n) (m .k)) r (refuse-passed (leb (c (m .n) (m .k)) r) 2 e)
+pub destination-in : (m : Machine) (call : Call) → InSection m → refusalOf m call ≡ 0 → InSection (moved m (destination m call))
+destination-in m forward inside e = step-in m inside onward
+destination-in m back inside e = step-in m inside backward
+destination-in m show inside e = inside
+destination-in m (jump r) inside e =
+    let there = within (m .lowest) (m .highest) r in
+    let (_, out) = then-passed (refuse (leb (c (m .n) (m .k)) r) 3) (refuse (not there) 13) e in
+    in-moved m inside r (within-true (m .lowest) (m .highest) r (not-false there (refuse-passed (not there) 12 out)))
 
--- a machine that moves, unless it is refused, between places of its list
-unless-on : (r : ℕ) (m m′ : Machine) → (r ≡ 0 → OnPlace m′) → OnPlace m → OnPlace (unless r m′ m)
-unless-on zero m m′ to on = to refl
-unless-on (suc r) m m′ to on = on
+-- a machine that moves, unless it is refused, between places of its section
+unless-in : (r : ℕ) (m m′ : Machine) → (r ≡ 0 → InSection m′) → InSection m → InSection (unless r m′ m)
+unless-in zero m m′ to inside = to refl
+unless-in (suc r) m m′ to inside = inside
 
--- a call leaves the machine on a place of its list
-pub turn-on : (m : Machine) (call : Call) → OnPlace m → OnPlace (turn m call)
+-- a call leaves the machine in its section
+pub turn-in : (m : Machine) (call : Call) → InSection m → InSection (turn m call)
 unfolding turn
-turn-on m call on =
-    unless-on
-    (refusalOf m call)
-    m
-    (moved m (destination m call))
-    (λ e. on-moved m on (destination m call) (destination-below m call on e))
-    on
+turn-in m call inside = unless-in (refusalOf m call) m (moved m (destination m call)) (destination-in m call inside) inside
 
--- from a machine on its place, the calls on the record that shows it give what the machine shows
-pub calls-run : (m : Machine) (calls : List Call) → OnPlace m → callsRun (observe m) calls ≡ machineRun m calls
+-- from a machine in its section, the calls on the record that shows it give what the machine shows
+pub calls-run : (m : Machine) (calls : List Call) → InSection m → callsRun (observe m) calls ≡ machineRun m calls
 unfolding callsRun machineRun
-calls-run m [] on = refl
-calls-run m (call ∷ calls) on =
-    rw (called-observe m call on, calls-run (turn m call) calls (turn-on m call on))
+calls-run m [] inside = refl
+calls-run m (call ∷ calls) inside =
+    rw (called-observe m call inside, calls-run (turn m call) calls (turn-in m call inside))
 
--- place 0 is a place of every list that open does not refuse
-pub start-on : (n k : ℕ) → checkCycles n k ≡ 0 → OnPlace (start n k)
-start-on n k e = record { cycles = e; below = cycles-passed n k e .1 }
+-- the whole list, opened as a section, passes the checks just where the plain open does
+whole-checks : (n k : ℕ) → checkOpening (Section n k 0 (c n k - 1)) ≡ checkCycles n k
+whole-checks n k = by-cycles (checkCycles n k) refl
+  where
+    by-cycles : (r : ℕ) → checkCycles n k ≡ r → checkOpening (Section n k 0 (c n k - 1)) ≡ checkCycles n k
+    by-cycles zero e =
+        let (small, some) = cycles-passed n k e in
+        rw (e, lt-leb (c n k) 0 some, lt-leb (c n k) (c n k - 1) (omega arith), le-ltb (c n k - 1) 0 (omega arith))
+    by-cycles (suc r) e = rw e
 
--- demand 3, the calls: for all n, k that open does not refuse and every list of calls
-pub calls : (n k : ℕ) → checkCycles n k ≡ 0 → (cs : List Call) → walkRun n k cs ≡ plainRun n k cs
+-- so the plain open is the section of the whole list
+pub opened-whole : (n k : ℕ) → opened (Whole n k) ≡ opened (Section n k 0 (c n k - 1))
 unfolding opened
-calls n k e cs = rw (e, calls-run (start n k) cs (start-on n k e))
+opened-whole n k = rw (whole-checks n k)
+
+-- the machine of an open that is not refused begins in its section
+section-in : (n k lowest highest : ℕ) → checkOpening (Section n k lowest highest) ≡ 0 → InSection (section n k lowest highest)
+section-in n k lowest highest e =
+    let (ends, order) = then-passed (checkPlace n k lowest then checkPlace n k highest) (refuse (ltb highest lowest) 13) e in
+    let (_, high) = then-passed (checkPlace n k lowest) (checkPlace n k highest) ends in
+    let (small, last) = place-passed n k highest high in
+    record {
+      cycles = cycles-passes n k highest small last;
+      low = omega arith;
+      high = ltb-false highest lowest (refuse-passed (ltb highest lowest) 12 order);
+      last = last;
+    }
+
+pub start-in : (opening : Opening) → checkOpening opening ≡ 0 → InSection (startOf opening)
+start-in (Whole n k) e = section-in n k 0 (c n k - 1) (whole-checks n k ∙ e)
+start-in (Section n k lowest highest) e = section-in n k lowest highest e
+
+-- demand 3, the calls: for either open that is not refused and every list of calls
+pub calls : (opening : Opening) → checkOpening opening ≡ 0 → (cs : List Call) → walkRun opening cs ≡ plainRun opening cs
+unfolding opened
+calls opening e cs = rw (e, calls-run (startOf opening) cs (start-in opening e))

@@ -10,6 +10,7 @@ use Rattle.gray.specs.Order.{S, relation, relationA, relationB, relationC, rela
 use Rattle.cursor.specs.Machine.{Machine, Call, forward, back, jump, show, observe, firstFrom, moved, turn, bare, answered}
 use Rattle.cursor.specs.Walk.{sound, called, start, zeros, opened}
 use Rattle.cursor.specs.declared.Answer.{Answer}
+use Rattle.cursor.specs.declared.Opening.the-variants.{Whole, Section}
 
 -- the three positions of an answer
 abbrev Names : Answer → ℕ → ℕ → ℕ → Type 0
@@ -41,8 +42,8 @@ pub record Table : Type 0 where
   pub show-5-2-38 : called (observe (moved (start 5 2) 38)) show .answer .fixed ≡ 1
   pub show-5-2-39 : called (observe (moved (start 5 2) 39)) show .answer .fixed ≡ 0
   -- 0,0: open serves and hands back a walk of zeros; a refused open hands back the same, with its refusal
-  pub open-0-0 : opened 0 0 ≡ record { cursor = zeros; answer = bare 0 }
-  pub open-0-1 : opened 0 1 ≡ record { cursor = zeros; answer = bare 2 }
+  pub open-0-0 : opened (Whole 0 0) ≡ record { cursor = zeros; answer = bare 0 }
+  pub open-0-1 : opened (Whole 0 1) ≡ record { cursor = zeros; answer = bare 2 }
   -- on a walk of zeros forward is refused 9 and back 10; jump 0 serves, jump 1 is refused 3; show hands out place 0 and zeros
   pub forward-0-0 : called zeros forward ≡ record { cursor = zeros; answer = bare 9 }
   pub back-0-0 : called zeros back ≡ record { cursor = zeros; answer = bare 10 }

@@ -7,12 +7,12 @@ use native.Mathlib.Numerals.{add-one}
 use lib.ListN.{length, getD, drop, drop-of-length-le}
 use lib.Seq.{drop-cons, getD-drop, drop-drop}
 use Rattle.stirling.specs.Refusal.{unless}
-use Rattle.stirling.specs.Count.{checkCycles}
 use Rattle.stirling.proofs.Refusals.{unless-refuses}
 use Rattle.cursor.specs.Machine.{Call}
-use Rattle.cursor.specs.Walk.{called, start, opened, callsRun, decode, decoded, lastStep, replayed}
+use Rattle.cursor.specs.Walk.{called, startOf, checkOpening, opened, callsRun, decode, decoded, lastStep, replayed}
+use Rattle.cursor.specs.declared.Opening.{Opening}
 use Rattle.cursor.specs.declared.Step.{Step}
-use Rattle.cursor.proofs.Calls.{calls-run, start-on}
+use Rattle.cursor.proofs.Calls.{calls-run, start-in}
 
 -- the step that a run ends with, from a step on
 abbrev pub ending : Step → List Call → Step
@@ -29,24 +29,24 @@ unfolding lastStep callsRun
 ending-last step = refl
 
 -- an open that is not refused, and the calls from there
-pub ending-opened : (n k : ℕ) (calls : List Call) → checkCycles n k ≡ 0 → ending (opened n k) calls ≡ replayed n k calls
+pub ending-opened : (opening : Opening) (calls : List Call) → checkOpening opening ≡ 0 → ending (opened opening) calls ≡ replayed opening calls
 unfolding opened replayed
-ending-opened n k calls e = rw (e, calls-run (start n k) calls (start-on n k e))
+ending-opened opening calls e = rw (e, calls-run (startOf opening) calls (start-in opening e))
 
 -- a refused open ends it
-pub replayed-refused : (n k : ℕ) (calls : List Call) → (checkCycles n k ≡ 0 → ⊥) → replayed n k calls ≡ opened n k
+pub replayed-refused : (opening : Opening) (calls : List Call) → (checkOpening opening ≡ 0 → ⊥) → replayed opening calls ≡ opened opening
 unfolding replayed
-replayed-refused n k calls d = unless-refuses (checkCycles n k) _ (opened n k) d
+replayed-refused opening calls d = unless-refuses (checkOpening opening) _ (opened opening) d
 
 -- a step that reports 0, or one that reports the refusal
 unless-refusal : (r : ℕ) (answer kept : Step) → answer .answer .refusal ≡ 0 → kept .answer .refusal ≡ r → unless r answer kept .answer .refusal ≡ r
 unless-refusal zero answer kept e f = e
 unless-refusal (suc r) answer kept e f = f
 
--- the refusal that an open reports is that of the checks 1 and 2
-pub opened-refusal : (n k : ℕ) → opened n k .answer .refusal ≡ checkCycles n k
+-- the refusal that an open reports is that of its checks
+pub opened-refusal : (opening : Opening) → opened opening .answer .refusal ≡ checkOpening opening
 unfolding opened
-opened-refusal n k = unless-refusal (checkCycles n k) _ _ refl refl
+opened-refusal opening = unless-refusal (checkOpening opening) _ _ refl refl
 
 -- the next of what is left of a list, and past its end 0
 getD-next : (s : List ℕ) (t : ℕ) → getD (drop t s) 0 0 ≡ getD s t 0

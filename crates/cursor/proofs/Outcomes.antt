@@ -1,19 +1,19 @@
 -- What a call on a record gives, one law for each outcome: the record fails check 8, the call is refused, or it moves. Assumes nothing.
 use mathlib.Core.Path.{_≡_, refl, sym, ap, _∙_}
 use mathlib.Core.Bool.{Bool, true, false, not}
-use Prim.Native.Nat.{ℕ, suc, _^_, _<_}
-use borrow.Author.Tests.{not-true, not-false, eq-eqb}
+use Prim.Native.Nat.{ℕ, zero, suc, _^_, _<_}
+use borrow.Author.Tests.{not-true, not-false}
 use Rattle.stirling.specs.Count.{c, lookupOf}
 use Rattle.stirling.proofs.Counts.{cycles-passed, looked-up, fits}
 use Rattle.perm.specs.Permutation.{fixed}
 use Rattle.gray.specs.Listing.{Near}
-use Rattle.cursor.specs.Machine.{Machine, Call, forward, back, show, Steps, onward, backward, observe, rowOf, refusalOf, destination, moved, turn, bare, stepped, stepTo, given, answered}
+use Rattle.cursor.specs.Machine.{Machine, Call, show, Steps, onward, backward, observe, rowOf, refusalOf, destination, moved, turn, bare, stepped, stepTo, given, answered}
 use Rattle.cursor.specs.Walk.{machineOf, sound, called}
 use Rattle.cursor.specs.declared.Cursor.{Cursor}
 use Rattle.cursor.specs.declared.Answer.{Answer}
-use Rattle.cursor.proofs.Calls.{step-below}
-use Rattle.cursor.proofs.Steps.{step-serves, turn-near}
-use Rattle.cursor.proofs.Sound.{sound-on, sound-shows}
+use Rattle.cursor.proofs.Calls.{in-on, step-in}
+use Rattle.cursor.proofs.Steps.{turn-near}
+use Rattle.cursor.proofs.Sound.{sound-in, sound-on, sound-shows}
 
 -- what the test `!is_sound(w)` says: taken, the record fails check 8
 pub fails : {found right : Bool} → found ≡ right → not found ≡ true → right ≡ false
@@ -28,11 +28,6 @@ pub given-step : (m : Machine) {call : Call} → Steps call → given m call ≡
 given-step m onward = refl
 given-step m backward = refl
 
--- their refusals on a list of one permutation
-abbrev pub alone : {call : Call} → Steps call → ℕ
-alone onward = 9
-alone backward = 10
-
 module _ (w : Cursor) (call : Call) where
   -- a record that fails check 8 comes back as it was
   pub called-unsound : sound w ≡ false → called w call ≡ record { cursor = w; answer = bare 8 }
@@ -40,9 +35,10 @@ module _ (w : Cursor) (call : Call) where
   called-unsound e = rw e
 
   -- a refused call moves nothing
-  pub called-refused : (r : ℕ) → sound w ≡ true → refusalOf (machineOf w) call ≡ suc r → called w call ≡ record { cursor = w; answer = bare (suc r) }
+  pub called-refused : (r : ℕ) → sound w ≡ true → refusalOf (machineOf w) call ≡ r → (r ≡ 0 → ⊥) → called w call ≡ record { cursor = w; answer = bare r }
   unfolding called turn answered
-  called-refused r e f = rw (e, f) (ap (λ (v : Cursor). record { cursor = v; answer = bare (suc r) }) (sym (sound-shows w e)))
+  called-refused zero e f d = absurd (d refl)
+  called-refused (suc r) e f d = rw (e, f) (ap (λ (v : Cursor). record { cursor = v; answer = bare (suc r) }) (sym (sound-shows w e)))
 
   -- a call that is not refused moves the machine
   pub called-moves : sound w ≡ true → refusalOf (machineOf w) call ≡ 0
@@ -50,25 +46,19 @@ module _ (w : Cursor) (call : Call) where
   unfolding called turn answered
   called-moves e f = rw (e, f)
 
--- forward and back are refused on a list of one permutation
-pub called-alone : (w : Cursor) {call : Call} (kind : Steps call) → sound w ≡ true → c (w .n) (w .k) ≡ 1
-    → called w call ≡ record { cursor = w; answer = bare (alone kind) }
-called-alone w onward e one = called-refused w forward 8 e (rw (eq-eqb (c (w .n) (w .k)) 1 one))
-called-alone w backward e one = called-refused w back 9 e (rw (eq-eqb (c (w .n) (w .k)) 1 one))
-
--- and on every other
-module _ (w : Cursor) {call : Call} (kind : Steps call) (e : sound w ≡ true) (d : c (w .n) (w .k) ≡ 1 → ⊥) (place : ℕ)
+-- forward and back, where they are not refused
+module _ (w : Cursor) {call : Call} (kind : Steps call) (e : sound w ≡ true) (f : refusalOf (machineOf w) call ≡ 0) (place : ℕ)
     (g : place ≡ destination (machineOf w) call) where
-  -- they lead to a place of the list, where the row is near
+  -- lead to a place of the list, where the row is near
   pub step-asks : (sound w ≡ true) × (place < c (w .n) (w .k)) × Near (w .n) (rowOf (machineOf w)) (rowOf (moved (machineOf w) place))
   step-asks =
       let m = machineOf w in
-      let on = sound-on w e in
-      rw g (e, step-below m on kind, turn-near m call on kind (step-serves m call kind d))
+      let inside = sound-in w e in
+      rw g (e, in-on _ (step-in m inside kind) .below, turn-near m call inside kind f)
 
   -- and give the record there, with the step between the rows
   pub step-gives : stepTo (machineOf w) place ≡ called w call
-  step-gives = rw (g, called-moves w call e (step-serves (machineOf w) call kind d), given-step (machineOf w) kind)
+  step-gives = rw (g, called-moves w call e f, given-step (machineOf w) kind)
 
 -- place, permutation and array as a record holds them, a number of fixed points, and zeros for the rest
 abbrev pub held : Cursor → ℕ → Answer

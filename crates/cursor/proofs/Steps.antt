@@ -1,6 +1,7 @@
 -- The three positions that forward and back report: three different ones, i the smallest, new = old·⟨i,j,l⟩, and the only such three. From the neighbours of
 -- S(n,k), which crate gray proves. Assumes nothing.
 use mathlib.Core.Path.{_≡_, _∙_, sym, ap}
+use mathlib.Core.Bool.{true, false, false≢true}
 use mathlib.Core.List.{[], _∷_}
 use Prim.Native.Nat.{ℕ, zero, suc, _+_, _-_, _≤_, _<_}
 use native.Mathlib.Omega.{arith}
@@ -8,9 +9,10 @@ use native.Mathlib.Numerals.{add-one}
 use native.Mathlib.Decide.{ℕ-discrete}
 use lib.Dec.{eqb}
 use lib.ListN.{length, getD}
-use borrow.Author.Tests.{eq-eqb, ne-eqb, eqb-false}
+use borrow.Author.Tests.{eq-eqb, ne-eqb, eqb-true, eqb-false}
+use borrow.Table.Steps.{cases}
 use Rattle.stirling.specs.Count.{c}
-use Rattle.stirling.proofs.Refusals.{refuse-passed}
+use Rattle.stirling.proofs.Refusals.{refuse-passed, and-true}
 use Rattle.perm.specs.Permutation.{IsPermutation, at, rotate}
 use Rattle.perm.proofs.Values.{injective, at-suc}
 use Rattle.perm.proofs.ArrayOf.{position-at}
@@ -18,9 +20,9 @@ use Rattle.gray.specs.Order.{Row, S}
 use Rattle.gray.specs.Listing.{rowAt, Positions, Near}
 use Rattle.gray.proofs.Once.{length-S, complete}
 use Rattle.gray.proofs.Neighbours.{neighbours, closed}
-use Rattle.cursor.specs.Machine.{Machine, Call, forward, back, Steps, onward, backward, rowOf, placeAfter, refusalOf, destination, moved, turn, firstFrom, stepI, stepJ, stepL, IsStep, Reversed, stepped, answered}
-use Rattle.cursor.proofs.Ring.{after-last, after-other, after-before}
-use Rattle.cursor.proofs.Calls.{OnPlace, on-moved, step-below}
+use Rattle.cursor.specs.Machine.{Machine, InSection, Call, forward, back, Steps, onward, backward, rowOf, whole, stops, placeAfter, refusalOf, destination, moved, turn, firstFrom, stepI, stepJ, stepL, IsStep, Reversed, stepped, answered}
+use Rattle.cursor.proofs.Ring.{after-last, after-other, before-other, after-before}
+use Rattle.cursor.proofs.Calls.{OnPlace, in-on, step-in}
 use Rattle.cursor.proofs.Rotate.{back-positions, length-rotate, at-rotate-i, at-rotate-j, at-rotate-other, rotate-back, near-back, from-smallest}
 
 -- the first index where two rows differ, as a position
@@ -76,40 +78,97 @@ step-back {s = s} {t} p q near =
 pub row-permutation : (m : Machine) → OnPlace m → IsPermutation (m .n) (rowOf m)
 row-permutation m on = complete (m .n) (m .k) .sound (m .place) (omega (arith, on .below, length-S (m .n) (m .k))) .permutation
 
--- a list of two rows or more is one that forward and back do not refuse
-pub step-serves : (m : Machine) (call : Call) → Steps call → (c (m .n) (m .k) ≡ 1 → ⊥) → refusalOf m call ≡ 0
-step-serves m _ onward d = rw (ne-eqb (c (m .n) (m .k)) 1 d)
-step-serves m _ backward d = rw (ne-eqb (c (m .n) (m .k)) 1 d)
+-- the end of its section past which a step leads
+abbrev pub end : (m : Machine) {call : Call} → Steps call → ℕ
+end m onward = m .highest
+end m backward = m .lowest
+
+-- a machine that does not stop there is one that forward and back do not refuse
+pub step-serves : (m : Machine) {call : Call} (kind : Steps call) → stops m (end m kind) ≡ false → refusalOf m call ≡ 0
+step-serves m onward e = rw e
+step-serves m backward e = rw e
 
 -- and only such a one
-pub step-served : (m : Machine) (call : Call) → Steps call → refusalOf m call ≡ 0 → c (m .n) (m .k) ≡ 1 → ⊥
-step-served m _ onward e = eqb-false (c (m .n) (m .k)) 1 (refuse-passed (eqb (c (m .n) (m .k)) 1) 8 e)
-step-served m _ backward e = eqb-false (c (m .n) (m .k)) 1 (refuse-passed (eqb (c (m .n) (m .k)) 1) 9 e)
+pub step-served : (m : Machine) {call : Call} (kind : Steps call) → refusalOf m call ≡ 0 → stops m (end m kind) ≡ false
+step-served m onward e = refuse-passed (stops m (m .highest)) 8 e
+step-served m backward e = refuse-passed (stops m (m .lowest)) 9 e
 
--- a row of a list of two or more is near the one at the place after, the last one near the first
-after-near : (n k place : ℕ) → place < c n k → (c n k ≡ 1 → ⊥) → Near n (rowAt (S n k) place) (rowAt (S n k) (placeAfter (c n k) place))
-after-near n k place h d = go (ℕ-discrete (place + 1) (c n k))
+-- a machine that does not stop at a place: its list is whole and has others, or it is elsewhere
+abbrev pub GoesOn : Machine → ℕ → Type 0
+GoesOn m place = (whole m ≡ true → c (m .n) (m .k) ≡ 1 → ⊥) × (whole m ≡ false → m .place ≡ place → ⊥)
+
+pub goes-on : (m : Machine) (place : ℕ) → stops m place ≡ false → GoesOn m place
+goes-on m place e = (λ f. eqb-false (c (m .n) (m .k)) 1 (rw f at e), λ f. eqb-false (m .place) place (rw f at e))
+
+pub on-goes : (m : Machine) (place : ℕ) → GoesOn m place → stops m place ≡ false
+on-goes m place g = cases (whole m) (λ f. rw (f, ne-eqb (c (m .n) (m .k)) 1 (g .0 f))) (λ f. rw (f, ne-eqb (m .place) place (g .1 f)))
+
+-- on the whole list forward and back are refused just where it has one row
+module _ (m : Machine) (f : whole m ≡ true) {call : Call} (kind : Steps call) where
+  pub whole-serves : (c (m .n) (m .k) ≡ 1 → ⊥) → refusalOf m call ≡ 0
+  whole-serves d = step-serves m kind (on-goes m (end m kind) (λ _. d, λ g. absurd (false≢true (sym g ∙ f))))
+
+  pub whole-served : refusalOf m call ≡ 0 → c (m .n) (m .k) ≡ 1 → ⊥
+  whole-served e = goes-on m (end m kind) (step-served m kind e) .0 f
+
+-- a closed section: the whole of a list of two rows or more
+record Closing (m : Machine) : Type 0 where
+  first : m .lowest ≡ 0
+  last : m .highest + 1 ≡ c (m .n) (m .k)
+  others : c (m .n) (m .k) ≡ 1 → ⊥
+
+-- the whole list, by its bounds
+pub whole-bounds : (m : Machine) → whole m ≡ true → (m .lowest ≡ 0) × (m .highest + 1 ≡ c (m .n) (m .k))
+whole-bounds m e =
+    let (first, last) = and-true (eqb (m .lowest) 0) (eqb (m .highest + 1) (c (m .n) (m .k))) e in
+    (eqb-true (m .lowest) 0 first, eqb-true (m .highest + 1) (c (m .n) (m .k)) last)
+
+-- at its end only a closed section goes on
+end-closes : (m : Machine) (place : ℕ) → stops m place ≡ false → m .place ≡ place → Closing m
+end-closes m place e at = cases (whole m) closed-one shorter
   where
-    go : Dec (place + 1 ≡ c n k) → Near n (rowAt (S n k) place) (rowAt (S n k) (placeAfter (c n k) place))
+    closed-one : whole m ≡ true → Closing m
+    closed-one f =
+        let (first, last) = whole-bounds m f in
+        record { first = first; last = last; others = goes-on m place e .0 f }
+
+    shorter : whole m ≡ false → Closing m
+    shorter f = absurd (goes-on m place e .1 f at)
+
+-- a row of a section is near the one at the place after: the next one, and in a closed section the last one near the first
+after-near : (m : Machine) → InSection m → (m .place ≡ m .highest → Closing m)
+    → Near (m .n) (rowOf m) (rowOf (moved m (placeAfter (m .lowest) (m .highest) (m .place))))
+after-near m inside closing = go (ℕ-discrete (m .place) (m .highest))
+  where
+    go : Dec (m .place ≡ m .highest) → Near (m .n) (rowOf m) (rowOf (moved m (placeAfter (m .lowest) (m .highest) (m .place))))
     go (yes e) =
-        let last : length (S n k) - 1 ≡ place = omega (arith, length-S n k) in
-        rw (after-last (c n k) place e) (rw last at (closed n k (omega (arith, length-S n k))))
-    go (no f) = rw (after-other (c n k) place f, add-one) (neighbours n k place (omega (arith, length-S n k)))
+        let closes = closing e in
+        let last : length (S (m .n) (m .k)) - 1 ≡ m .place = omega (arith, length-S (m .n) (m .k), closes .last) in
+        let two : 2 ≤ length (S (m .n) (m .k)) = omega (arith, length-S (m .n) (m .k), closes .others, inside .last) in
+        rw (after-last (m .lowest) (m .highest) (m .place) e, closes .first) (rw last at (closed (m .n) (m .k) two))
+    go (no d) =
+        rw (after-other (m .lowest) (m .highest) (m .place) d, add-one)
+        (neighbours (m .n) (m .k) (m .place) (omega (arith, length-S (m .n) (m .k), inside .high, inside .last)))
 
 -- the row after a forward or back that is not refused is near the row before
-pub turn-near : (m : Machine) (call : Call) → OnPlace m → Steps call → refusalOf m call ≡ 0 → Near (m .n) (rowOf m) (rowOf (moved m (destination m call)))
-turn-near m _ on onward e = after-near (m .n) (m .k) (m .place) (on .below) (step-served m forward onward e)
-turn-near m _ on backward e =
-    let place = destination m back in
-    let below = step-below m on backward in
-    let near = after-near (m .n) (m .k) place below (step-served m back backward e) in
+pub turn-near : (m : Machine) (call : Call) → InSection m → Steps call → refusalOf m call ≡ 0 → Near (m .n) (rowOf m) (rowOf (moved m (destination m call)))
+turn-near m _ inside onward e = after-near m inside (end-closes m (m .highest) (step-served m onward e))
+turn-near m _ inside backward e =
+    let there = moved m (destination m back) in
+    let near = after-near there (step-in m inside backward) (closes (ℕ-discrete (m .place) (m .lowest))) in
     near-back
-    (row-permutation (moved m place) (on-moved m on place below) .size)
-    (rw (after-before (c (m .n) (m .k)) (m .place) (on .below)) at near)
+    (row-permutation there (in-on there (step-in m inside backward)) .size)
+    (rw (after-before (m .lowest) (m .highest) (m .place) (inside .low) (inside .high)) at near)
+  where
+    closes : Dec (m .place ≡ m .lowest) → destination m back ≡ m .highest → Closing (moved m (destination m back))
+    closes (yes at) f =
+        let closing = end-closes m (m .lowest) (step-served m backward e) at in
+        record { first = closing .first; last = closing .last; others = closing .others }
+    closes (no d) f = absurd (omega (arith, before-other (m .lowest) (m .highest) (m .place) d, inside .low, inside .high))
 
 -- demand 3, the steps: at each forward or back that is not refused, the answer's three positions are the step from the old row to the new one
-pub steps : (m : Machine) (call : Call) → OnPlace m → Steps call → refusalOf m call ≡ 0
+pub steps : (m : Machine) (call : Call) → InSection m → Steps call → refusalOf m call ≡ 0
     → IsStep (m .n) (rowOf m) (rowOf (turn m call)) (answered m call .i) (answered m call .j) (answered m call .l)
 unfolding turn answered
-steps m _ on onward e = rw e (near-step (row-permutation m on) (turn-near m forward on onward e))
-steps m _ on backward e = rw e (near-step (row-permutation m on) (turn-near m back on backward e))
+steps m _ inside onward e = rw e (near-step (row-permutation m (in-on m inside)) (turn-near m forward inside onward e))
+steps m _ inside backward e = rw e (near-step (row-permutation m (in-on m inside)) (turn-near m back inside backward e))

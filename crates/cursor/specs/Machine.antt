@@ -1,12 +1,13 @@
--- Document 01's plain machine of demand 3: it holds n, k and a place and nothing else, and moves by the calls alone. These are definitions; nothing is assumed.
+-- Document 01's plain machine of demand 3, as document 02, h), has it: it holds n, k, a place and both bounds of its section and nothing else, and moves by the calls
+-- alone. These are definitions; nothing is assumed.
 use mathlib.Core.Path.{_≡_}
-use Prim.Native.Nat.{ℕ, suc, _+_, _-_, _≤_}
-use mathlib.Core.Bool.{cond}
+use Prim.Native.Nat.{ℕ, suc, _+_, _-_, _≤_, _<_}
+use mathlib.Core.Bool.{Bool, not, cond, _&&_}
 use mathlib.Core.List.{List, [], _∷_, _++_}
 use lib.Dec.{eqb, leb}
 use lib.ListN.{length, replicate}
-use Rattle.stirling.specs.Refusal.{refuse, unless}
-use Rattle.stirling.specs.Count.{c}
+use Rattle.stirling.specs.Refusal.{refuse, _then_, unless, within}
+use Rattle.stirling.specs.Count.{c, checkCycles}
 use Rattle.perm.specs.Permutation.{at, fixed, rotate}
 use Rattle.perm.specs.Array.{position, arrayOf}
 use Rattle.gray.specs.Order.{Row, S}
@@ -19,6 +20,15 @@ pub record Machine : Type 0 where
   pub n : ℕ
   pub k : ℕ
   pub place : ℕ
+  pub lowest : ℕ
+  pub highest : ℕ
+
+-- document 02, h): a machine in its section, the section in its list: lowest ≤ place ≤ highest < c(n,k), and the checks 1 and 2 pass
+pub record InSection (m : Machine) : Type 0 where
+  pub cycles : checkCycles (m .n) (m .k) ≡ 0
+  pub low : m .lowest ≤ m .place
+  pub high : m .place ≤ m .highest
+  pub last : m .highest < c (m .n) (m .k)
 
 pub data Call : Type 0 where
   forward back show : Call
@@ -37,40 +47,52 @@ padded s = s ++ replicate (20 - length s) 0
 abbrev pub rowOf : Machine → Row
 rowOf m = rowAt (S (m .n) (m .k)) (m .place)
 
--- the record that shows it: n, k, place, permutation, array
+-- the record that shows it: n, k, place, both bounds, permutation, array
 unfoldable pub observe : Machine → Cursor
 observe m = record {
   n = m .n;
   k = m .k;
   place = m .place;
+  lowest = m .lowest;
+  highest = m .highest;
   perm = padded (rowOf m);
   array = padded (arrayOf (m .n) (rowOf m));
 }
 
--- document 02, g): the list is closed. The place after another among so many places: after the last comes 0
-abbrev pub placeAfter : ℕ → ℕ → ℕ
-placeAfter count place = cond (eqb (place + 1) count) 0 (place + 1)
+-- its section is the whole list: lowest 0 and highest c(n,k) − 1
+abbrev pub whole : Machine → Bool
+whole m = eqb (m .lowest) 0 && eqb (m .highest + 1) (c (m .n) (m .k))
 
--- and the place before: before 0 comes the last
-abbrev pub placeBefore : ℕ → ℕ → ℕ
-placeBefore count place = cond (eqb place 0) (count - 1) (place - 1)
+-- whether a step past an end is refused: on the whole list, which document 02, g), closes, only if it has one permutation; a shorter section stops at its ends
+abbrev pub stops : Machine → ℕ → Bool
+stops m end = cond (whole m) (eqb (c (m .n) (m .k)) 1) (eqb (m .place) end)
 
--- forward: refused 9 on a list of one permutation; back: refused 10 there; jump r: refused 3 if r ≥ c(n,k); show is not refused
+-- the place after another of a section: after the highest comes the lowest
+abbrev pub placeAfter : ℕ → ℕ → ℕ → ℕ
+placeAfter lowest highest place = cond (eqb place highest) lowest (place + 1)
+
+-- and the place before: before the lowest comes the highest
+abbrev pub placeBefore : ℕ → ℕ → ℕ → ℕ
+placeBefore lowest highest place = cond (eqb place lowest) highest (place - 1)
+
+-- forward: refused 9 if it stops at the highest place; back: refused 10 if it stops at the lowest; jump r: refused 3 if r ≥ c(n,k), then 13 if r is outside the
+-- section; show is not refused
 abbrev pub refusalOf : Machine → Call → ℕ
-refusalOf m forward = refuse (eqb (c (m .n) (m .k)) 1) 9
-refusalOf m back = refuse (eqb (c (m .n) (m .k)) 1) 10
-refusalOf m (jump r) = refuse (leb (c (m .n) (m .k)) r) 3
+refusalOf m forward = refuse (stops m (m .highest)) 9
+refusalOf m back = refuse (stops m (m .lowest)) 10
+refusalOf m (jump r) = refuse (leb (c (m .n) (m .k)) r) 3 then refuse (not (within (m .lowest) (m .highest) r)) 13
 refusalOf m show = 0
 
 -- forward: the place after; back: the place before; jump r: place r; show stays
 abbrev pub destination : Machine → Call → ℕ
-destination m forward = placeAfter (c (m .n) (m .k)) (m .place)
-destination m back = placeBefore (c (m .n) (m .k)) (m .place)
+destination m forward = placeAfter (m .lowest) (m .highest) (m .place)
+destination m back = placeBefore (m .lowest) (m .highest) (m .place)
 destination m (jump r) = r
 destination m show = m .place
 
+-- the machine at another place
 abbrev pub moved : Machine → ℕ → Machine
-moved m place = record { n = m .n; k = m .k; place = place }
+moved m place = record { n = m .n; k = m .k; place = place; lowest = m .lowest; highest = m .highest }
 
 -- the machine after a call; a refused call moves nothing
 unfoldable pub turn : Machine → Call → Machine

@@ -1,27 +1,30 @@
 -- Document 01's *walk* as a record that a caller hands in, sound or not: what each call gives for EVERY record. These are definitions; nothing is assumed.
 use mathlib.Core.Path.{_≡_}
-use Prim.Native.Nat.{ℕ, zero, suc, _<_}
+use Prim.Native.Nat.{ℕ, zero, suc, _-_, _<_}
 use mathlib.Core.Bool.{Bool, not, cond, _&&_}
 use mathlib.Core.List.{List, [], _∷_}
-use lib.Dec.{eqb}
+use lib.Dec.{eqb, ltb}
 use lib.ListN.{replicate, take}
-use Rattle.stirling.specs.Refusal.{refuse, unless}
+use Rattle.stirling.specs.Refusal.{refuse, _then_, unless, within}
 use Rattle.stirling.specs.Count.{c, checkCycles, checkPlace}
 use Rattle.perm.specs.Lists.{same}
 use Rattle.gray.specs.Order.{Row}
 use Rattle.gray.specs.Listing.{HasCycles}
 use Rattle.cursor.specs.Machine.{Machine, Call, forward, back, jump, show, observe, turned, machineRun, Reversed, bare}
 use Rattle.cursor.specs.declared.Cursor.{Cursor}
+use Rattle.cursor.specs.declared.Opening.{Opening}
+use Rattle.cursor.specs.declared.Opening.the-variants.{Whole, Section}
 use Rattle.cursor.specs.declared.Step.{Step}
 
--- the machine at a record's n, k and place
+-- the machine at a record's n, k, place and bounds
 abbrev pub machineOf : Cursor → Machine
-machineOf w = record { n = w .n; k = w .k; place = w .place }
+machineOf w = record { n = w .n; k = w .k; place = w .place; lowest = w .lowest; highest = w .highest }
 
--- n, k and place in range, as the checks 1, 2 and 3 have it, and permutation and array, with the zeros after the n-th byte, those of that place
+-- n, k and the highest place in range, as the checks 1, 2 and 3 have it, lowest ≤ place ≤ highest, and permutation and array, with the zeros after the n-th byte, those
+-- of that place
 unfoldable pub sound : Cursor → Bool
 sound w =
-    eqb (checkPlace (w .n) (w .k) (w .place)) 0
+    eqb (checkPlace (w .n) (w .k) (w .highest)) 0 && within (w .lowest) (w .highest) (w .place)
     && same (w .perm) (observe (machineOf w) .perm) && same (w .array) (observe (machineOf w) .array)
 
 -- check 8
@@ -32,19 +35,34 @@ checkRecord w = refuse (not (sound w)) 8
 unfoldable pub called : Cursor → Call → Step
 called w call = unless (checkRecord w) (turned (machineOf w) call) (record { cursor = w; answer = bare 8 })
 
+-- a section of S(n,k) begins at its lowest place
+abbrev pub section : ℕ → ℕ → ℕ → ℕ → Machine
+section n k lowest highest = record { n = n; k = k; place = lowest; lowest = lowest; highest = highest }
+
+-- and the whole list, from 0 to c(n,k) − 1, at place 0
 abbrev pub start : ℕ → ℕ → Machine
-start n k = record { n = n; k = k; place = 0 }
+start n k = section n k 0 (c n k - 1)
+
+-- the machine that an opening begins with
+abbrev pub startOf : Opening → Machine
+startOf (Whole n k) = start n k
+startOf (Section n k lowest highest) = section n k lowest highest
+
+-- open: checks 1 and 2; of a section, also 3 for either end, then 13 if the lowest place is above the highest
+abbrev pub checkOpening : Opening → ℕ
+checkOpening (Whole n k) = checkCycles n k
+checkOpening (Section n k lowest highest) = checkPlace n k lowest then checkPlace n k highest then refuse (ltb highest lowest) 13
 
 -- a walk of zeros: what a refused open hands back, and the walk of the one permutation of nothing
 abbrev pub zeros : Cursor
-zeros = record { n = 0; k = 0; place = 0; perm = replicate 20 0; array = replicate 20 0 }
+zeros = record { n = 0; k = 0; place = 0; lowest = 0; highest = 0; perm = replicate 20 0; array = replicate 20 0 }
 
--- open: checks 1 and 2, then place 0; a refused open hands back a walk of zeros
-unfoldable pub opened : ℕ → ℕ → Step
-opened n k =
-    unless (checkCycles n k)
-    (record { cursor = observe (start n k); answer = bare 0 })
-    (record { cursor = zeros; answer = bare (checkCycles n k) })
+-- either open: its checks, then the lowest place; a refused open hands back a walk of zeros
+unfoldable pub opened : Opening → Step
+opened opening =
+    unless (checkOpening opening)
+    (record { cursor = observe (startOf opening); answer = bare 0 })
+    (record { cursor = zeros; answer = bare (checkOpening opening) })
 
 -- the steps after an open and after each call of a list, each call getting the record that the one before handed back
 unfoldable pub callsRun : Cursor → List Call → List Step
@@ -52,12 +70,12 @@ callsRun w [] = []
 callsRun w (call ∷ calls) = called w call ∷ callsRun (called w call .cursor) calls
 
 -- the whole list of a walk: the step of the open and those of the calls
-abbrev pub walkRun : ℕ → ℕ → List Call → List Step
-walkRun n k calls = opened n k ∷ callsRun (opened n k .cursor) calls
+abbrev pub walkRun : Opening → List Call → List Step
+walkRun opening calls = opened opening ∷ callsRun (opened opening .cursor) calls
 
 -- the whole list of the plain machine: what stands after the open and after each call
-abbrev pub plainRun : ℕ → ℕ → List Call → List Step
-plainRun n k calls = record { cursor = observe (start n k); answer = bare 0 } ∷ machineRun (start n k) calls
+abbrev pub plainRun : Opening → List Call → List Step
+plainRun opening calls = record { cursor = observe (startOf opening); answer = bare 0 } ∷ machineRun (startOf opening) calls
 
 -- document 02, g): a call undoes another on a record: it hands the record back, with the three positions the other way round, and is refused only if the other was
 pub record Undone (w : Cursor) (call other : Call) : Type 0 where
@@ -96,6 +114,6 @@ unfoldable pub lastStep : Step → List Step → Step
 lastStep first [] = first
 lastStep first (next ∷ steps) = lastStep next steps
 
--- replay: the step that the plain machine ends with after an open and a list of calls; a refused open ends it
-unfoldable pub replayed : ℕ → ℕ → List Call → Step
-replayed n k calls = unless (checkCycles n k) (lastStep (opened n k) (machineRun (start n k) calls)) (opened n k)
+-- replay: the step that the plain machine ends with after either open and a list of calls; a refused open ends it
+unfoldable pub replayed : Opening → List Call → Step
+replayed opening calls = unless (checkOpening opening) (lastStep (opened opening) (machineRun (startOf opening) calls)) (opened opening)

@@ -1,25 +1,29 @@
-// A cursor that walks through S(n,k): a record handed over by value and handed back.
+// A cursor that walks through S(n,k), or through a section of it: a record handed over by value and handed back.
 ghost use mathlib.Core.Path.{_≡_};
 ghost use mathlib.Core.Bool.{true, cond};
-ghost use Prim.Native.Nat.{_<_};
+ghost use Prim.Native.Nat.{_≤_, _<_};
 ghost use lib.ListN.{length, getD, take};
+ghost use Rattle.stirling.specs.Refusal.{within};
 ghost use Rattle.stirling.specs.Count.{c, checkSize, checkPlace};
 ghost use Rattle.perm.specs.Lists.{same};
 ghost use Rattle.perm.specs.Permutation.{IsPermutation, fixed};
 ghost use Rattle.perm.specs.Array.{position, arrayOf};
 ghost use Rattle.gray.specs.Order.{S};
 ghost use Rattle.gray.specs.Listing.{rowAt, Near};
-ghost use Rattle.cursor.specs.Machine.{padded, observe, rowOf, placeAfter, placeBefore, moved, firstFrom, bare, stepped, stepTo, forward, back, jump, show};
-ghost use Rattle.cursor.specs.Walk.{machineOf, sound, called, start, opened, decode, decoded, replayed};
+ghost use Rattle.cursor.specs.Machine.{padded, observe, rowOf, whole, stops, placeAfter, placeBefore, refusalOf, moved, firstFrom, bare, stepped, stepTo, forward, back, jump, show};
+ghost use Rattle.cursor.specs.Walk.{machineOf, sound, called, section, checkOpening, zeros, opened, decode, decoded, replayed};
 
 // Check 8: a record that is not one that the calls hand back.
 pub const REFUSED_RECORD: u8 = 8;
 
-// Forward on a list of one permutation; every other list is closed.
+// Forward at the highest place of a section, and on a list of one permutation; every other whole list is closed.
 pub const REFUSED_LAST: u8 = 9;
 
-// Back on a list of one permutation.
+// Back at the lowest place of a section, and on a list of one permutation.
 pub const REFUSED_FIRST: u8 = 10;
+
+// A jump out of the section, and an opening with its lowest place above its highest.
+pub const REFUSED_SECTION: u8 = 13;
 
 // The calls of a list that is replayed; any other number is a show.
 pub const FORWARD: u8 = 1;
@@ -28,11 +32,14 @@ pub const BACK: u8 = 2;
 
 pub const JUMP: u8 = 3;
 
-// Document 01's *walk*: n, k, the place, and the permutation and the transposition array that stand there, zero after the n-th byte.
+// Document 01's *walk*: n, k, the place, the lowest and the highest place of the section that it keeps to, and the permutation and the transposition array that stand at
+// the place, zero after the n-th byte.
 pub struct Cursor {
     pub n: u64,
     pub k: u64,
     pub place: u64,
+    pub lowest: u64,
+    pub highest: u64,
     pub perm: [u8; 20],
     pub array: [u8; 20],
 }
@@ -54,6 +61,12 @@ pub struct Answer {
 pub struct Step {
     pub cursor: Cursor,
     pub answer: Answer,
+}
+
+// The two opens, for a list of calls that is replayed: of the whole list S(n,k), and of a section of it.
+pub enum Opening {
+    Whole { n: u64, k: u64 },
+    Section { n: u64, k: u64, lowest: u64, highest: u64 },
 }
 
 // The array of a permutation, filled up with zeros, and the permutation's number of fixed points.
@@ -121,10 +134,10 @@ fn entries_of(n: u64, row: [u8; 20]) -> Entries
     }
 }
 
-// The record that shows the plain machine at a place of S(n,k), and the number of fixed points of the permutation there.
-fn counted_at(n: u64, k: u64, place: u64) -> Counted
+// The record that shows the plain machine at a place of S(n,k), in a section of it, and the number of fixed points of the permutation there.
+fn counted_at(n: u64, k: u64, place: u64, lowest: u64, highest: u64) -> Counted
     requires { ⌜ checkPlace n k place ≡ 0 ⌝ }
-    ensures { λ r. ⌜ r ≡ record { cursor = observe (moved (start n k) place); fixed = fixed (rowAt (S n k) place) } ⌝ }
+    ensures { λ r. ⌜ r ≡ record { cursor = observe (moved (section n k lowest highest) place); fixed = fixed (rowAt (S n k) place) } ⌝ }
 {
     let perm = row_at(n, k, place);
     let entries = entries_of(n, perm);
@@ -134,6 +147,8 @@ fn counted_at(n: u64, k: u64, place: u64) -> Counted
             n,
             k,
             place,
+            lowest,
+            highest,
             perm,
             array,
         },
@@ -142,11 +157,11 @@ fn counted_at(n: u64, k: u64, place: u64) -> Counted
 }
 
 // The record alone.
-fn cursor_at(n: u64, k: u64, place: u64) -> Cursor
+fn cursor_at(n: u64, k: u64, place: u64, lowest: u64, highest: u64) -> Cursor
     requires { ⌜ checkPlace n k place ≡ 0 ⌝ }
-    ensures { λ r. ⌜ r ≡ observe (moved (start n k) place) ⌝ }
+    ensures { λ r. ⌜ r ≡ observe (moved (section n k lowest highest) place) ⌝ }
 {
-    counted_at(n, k, place).cursor
+    counted_at(n, k, place, lowest, highest).cursor
 }
 
 // Whether two arrays have the same bytes.
@@ -163,14 +178,24 @@ fn equal(a: [u8; 20], b: [u8; 20]) -> bool
     true
 }
 
+// Whether a place is from the lowest to the highest of a section.
+fn is_within(lowest: u64, highest: u64, place: u64) -> bool
+    ensures { λ r. ⌜ r ≡ within lowest highest place ⌝ }
+{
+    lowest <= place && place <= highest
+}
+
 // Check 8: permutation and array are recomputed at the record's place, and all their bytes compared; the fixed points were counted on the way.
 fn check_record(w: Cursor) -> Checked
     ensures { λ r. ⌜ r ≡ record { sound = sound w; fixed = cond (sound w) (fixed (rowOf (machineOf w))) 0 } ⌝ }
 {
-    if stirling::check_place(w.n, w.k, w.place) != 0 {
+    if stirling::check_place(w.n, w.k, w.highest) != 0 {
         return UNSOUND;
     }
-    let counted = counted_at(w.n, w.k, w.place);
+    if !is_within(w.lowest, w.highest, w.place) {
+        return UNSOUND;
+    }
+    let counted = counted_at(w.n, w.k, w.place, w.lowest, w.highest);
     let right = counted.cursor;
     let perm = w.perm;
     let right_perm = right.perm;
@@ -260,82 +285,146 @@ fn step_to(w: Cursor, place: u64) -> Step
     ensures { λ r. ⌜ r ≡ stepTo (machineOf w) place ⌝ }
 {
     let size = w.n as usize;
-    let cursor = cursor_at(w.n, w.k, place);
+    let cursor = cursor_at(w.n, w.k, place, w.lowest, w.highest);
     let old = w.perm;
     let new = cursor.perm;
     let answer = step_between(&old[..size], &new[..size]);
     Step { cursor, answer }
 }
 
-// The place after one of so many, or the one before it: past the last it is place 0, and before place 0 the last.
-fn place_beside(count: u64, place: u64, onward: bool) -> u64
-    requires { ⌜ (place < count) × (1 < count) ⌝ }
-    ensures { λ r. ⌜ r ≡ cond onward (placeAfter count place) (placeBefore count place) ⌝ }
+// The place after one of a section, or the one before it: past the highest it is the lowest, and before the lowest the highest.
+fn place_beside(lowest: u64, highest: u64, place: u64, onward: bool) -> u64
+    requires { ⌜ (lowest ≤ place) × (place ≤ highest) ⌝ }
+    ensures { λ r. ⌜ r ≡ cond onward (placeAfter lowest highest place) (placeBefore lowest highest place) ⌝ }
 {
     if onward {
-        let next = place + 1;
-        return if next == count { 0 } else { next };
+        return if place == highest { lowest } else { place + 1 };
     }
-    if place == 0 { count - 1 } else { place - 1 }
+    if place == lowest { highest } else { place - 1 }
 }
 
-// Forward, or back: a step round the list, which a list of one permutation refuses.
-fn ring_step(w: Cursor, onward: bool) -> Step
+// Whether a record's section is the whole list.
+fn is_whole(w: Cursor) -> bool
+    requires { ⌜ sound w ≡ true ⌝ }
+    ensures { λ r. ⌜ r ≡ whole (machineOf w) ⌝ }
+{
+    w.lowest == 0 && w.highest + 1 == stirling::lookup(w.n, w.k)
+}
+
+// Whether a step from a record's place past an end of its section is refused: the whole list is closed, unless it has one permutation; a shorter section is not.
+fn stops_at(w: Cursor, end: u64) -> bool
+    requires { ⌜ sound w ≡ true ⌝ }
+    ensures { λ r. ⌜ r ≡ stops (machineOf w) end ⌝ }
+{
+    if is_whole(w) {
+        return stirling::lookup(w.n, w.k) == 1;
+    }
+    w.place == end
+}
+
+// What refuses the step forward from a record's place, or the step back.
+fn check_step(w: Cursor, onward: bool) -> u8
+    requires { ⌜ sound w ≡ true ⌝ }
+    ensures { λ r. ⌜ r ≡ refusalOf (machineOf w) (cond onward forward back) ⌝ }
+{
+    if onward {
+        return if stops_at(w, w.highest) { REFUSED_LAST } else { 0 };
+    }
+    if stops_at(w, w.lowest) { REFUSED_FIRST } else { 0 }
+}
+
+// Forward, or back: a step within the section, and round the list if that is the section.
+fn section_step(w: Cursor, onward: bool) -> Step
     ensures { λ r. ⌜ r ≡ called w (cond onward forward back) ⌝ }
 {
     if !is_sound(w) {
         return refused(w, REFUSED_RECORD);
     }
-    let count = stirling::lookup(w.n, w.k);
-    if count == 1 {
-        if onward {
-            return refused(w, REFUSED_LAST);
-        }
-        return refused(w, REFUSED_FIRST);
+    let refusal = check_step(w, onward);
+    if refusal != 0 {
+        return refused(w, refusal);
     }
-    step_to(w, place_beside(count, w.place, onward))
+    step_to(w, place_beside(w.lowest, w.highest, w.place, onward))
+}
+
+// The checks of a section's opening: 1, 2, then 3 for either end, then 13.
+fn check_section(n: u64, k: u64, lowest: u64, highest: u64) -> u8
+    ensures { λ r. ⌜ r ≡ checkOpening (Opening.Section n k lowest highest) ⌝ }
+{
+    let refusal = stirling::check_place(n, k, lowest);
+    if refusal != 0 {
+        return refusal;
+    }
+    let refusal = stirling::check_place(n, k, highest);
+    if refusal != 0 {
+        return refusal;
+    }
+    if lowest > highest {
+        return REFUSED_SECTION;
+    }
+    0
+}
+
+// A refused open: a walk of zeros, and the refusal.
+fn not_opened(refusal: u8) -> Step
+    ensures { λ r. ⌜ r ≡ record { cursor = zeros; answer = bare refusal } ⌝ }
+{
+    Step {
+        cursor: Cursor {
+            n: 0,
+            k: 0,
+            place: 0,
+            lowest: 0,
+            highest: 0,
+            perm: [0u8; 20],
+            array: [0u8; 20],
+        },
+        answer: bare_answer(refusal),
+    }
 }
 
 impl Cursor {
-    // A walk from place 0 of S(n,k). Refusals 1 and 2; a refused open hands back a walk of zeros. That is also the walk of the empty list, n = 0 with
-    // k = 0, so only the refusal tells a refused open: a record of zeros does not.
+    // A walk from place 0 of S(n,k), through the whole list. Refusals 1 and 2; a refused open hands back a walk of zeros. That is also the walk of the empty list,
+    // n = 0 with k = 0, so only the refusal tells a refused open: a record of zeros does not.
     pub fn open(n: u64, k: u64) -> Step
-        ensures { λ r. ⌜ r ≡ opened n k ⌝ }
+        ensures { λ r. ⌜ r ≡ opened (Opening.Whole n k) ⌝ }
     {
         let refusal = stirling::check_cycles(n, k);
         if refusal != 0 {
-            return Step {
-                cursor: Cursor {
-                    n: 0,
-                    k: 0,
-                    place: 0,
-                    perm: [0u8; 20],
-                    array: [0u8; 20],
-                },
-                answer: bare_answer(refusal),
-            };
+            return not_opened(refusal);
+        }
+        Cursor::open_section(n, k, 0, stirling::lookup(n, k) - 1)
+    }
+
+    // A walk from the lowest place of a section of S(n,k), both ends included; it keeps to the section. Refusals 1, 2, 3 and 13, as `open` has them.
+    pub fn open_section(n: u64, k: u64, lowest: u64, highest: u64) -> Step
+        ensures { λ r. ⌜ r ≡ opened (Opening.Section n k lowest highest) ⌝ }
+    {
+        let refusal = check_section(n, k, lowest, highest);
+        if refusal != 0 {
+            return not_opened(refusal);
         }
         Step {
-            cursor: cursor_at(n, k, 0),
+            cursor: cursor_at(n, k, lowest, lowest, highest),
             answer: bare_answer(0),
         }
     }
 
-    // To the next place, from the last to place 0, with the three positions of the step. Refusals 8 and 9.
+    // To the next place, on the whole list from the last to place 0, with the three positions of the step. Refusals 8 and 9.
     pub fn forward(self) -> Step
         ensures { λ r. ⌜ r ≡ called self forward ⌝ }
     {
-        ring_step(self, true)
+        section_step(self, true)
     }
 
-    // To the place before, from place 0 to the last, with the three positions of the step. Refusals 8 and 10.
+    // To the place before, on the whole list from place 0 to the last, with the three positions of the step. Refusals 8 and 10.
     pub fn back(self) -> Step
         ensures { λ r. ⌜ r ≡ called self back ⌝ }
     {
-        ring_step(self, false)
+        section_step(self, false)
     }
 
-    // To any place. Refusals 8 and 3.
+    // To any place of the section. Refusals 8, 3 and 13.
     pub fn jump(self, place: u64) -> Step
         ensures { λ r. ⌜ r ≡ called self (jump place) ⌝ }
     {
@@ -345,7 +434,10 @@ impl Cursor {
         if place >= stirling::lookup(self.n, self.k) {
             return refused(self, stirling::REFUSED_PLACE);
         }
-        let cursor = cursor_at(self.n, self.k, place);
+        if !is_within(self.lowest, self.highest, place) {
+            return refused(self, REFUSED_SECTION);
+        }
+        let cursor = cursor_at(self.n, self.k, place, self.lowest, self.highest);
         let answer = bare_answer(0);
         Step { cursor, answer }
     }
@@ -400,11 +492,21 @@ fn place_of(places: &[u64], t: usize) -> u64
     if t < places.len() { places[t] } else { 0 }
 }
 
-// An open and then a list of calls, each on the record that the one before handed back: what the last of them gives. A refused open ends it.
-pub fn replay(n: u64, k: u64, kinds: &[u8], places: &[u64]) -> Step
-    ensures { λ r. ⌜ r ≡ replayed n k (decoded (now (kinds .entry)) (now (places .entry))) ⌝ }
+// Either open.
+fn make_opening(opening: Opening) -> Step
+    ensures { λ r. ⌜ r ≡ opened opening ⌝ }
 {
-    let mut step = Cursor::open(n, k);
+    match opening {
+        Opening::Whole { n, k } => Cursor::open(n, k),
+        Opening::Section { n, k, lowest, highest } => Cursor::open_section(n, k, lowest, highest),
+    }
+}
+
+// Either open and then a list of calls, each on the record that the one before handed back: what the last of them gives. A refused open ends it.
+pub fn replay(opening: Opening, kinds: &[u8], places: &[u64]) -> Step
+    ensures { λ r. ⌜ r ≡ replayed opening (decoded (now (kinds .entry)) (now (places .entry))) ⌝ }
+{
+    let mut step = make_opening(opening);
     if step.answer.refusal != 0 {
         return step;
     }

@@ -1,41 +1,36 @@
--- `cursor::replay` meets its contract. The invariant: the whole run ends as the rest of the calls does from the step reached. Assumes nothing.
-use mathlib.Core.Path.{_≡_, sym, ap, _∙_}
+-- `cursor::replay` meets its contract. The invariant: the rest of the calls ends, from the step reached, as all of them do from the step of the open. Assumes nothing.
+use mathlib.Core.Path.{_≡_, refl, sym, ap, _∙_}
 use Prim.Native.Nat.{_≤_, _-_}
 use native.Mathlib.Omega.{arith}
 use lib.ListN.{length, drop}
 use denote.Ref.{now}
 use borrow.Author.Needs.{needs}
-use Rattle.stirling.specs.Count.{checkCycles}
-use Rattle.cursor.specs.Walk.{decoded, replayed}
+use Rattle.cursor.specs.Walk.{checkOpening, decoded, replayed}
 use Rattle.cursor.proofs.Endings.{ending, ending-next, ending-last, ending-opened, replayed-refused, opened-refusal, decoded-next, decoded-past}
 use Rattle.cursor.proofs.replay.Statement.{statement}
 use Rattle.cursor.proofs.replay.Tie as tie
 
 abbrev Inv-loop : tie.InvT-loop
-Inv-loop n k kinds places step₀ t₀ step t = (t ≤ length kinds) × (ending step (decoded (drop t kinds) (drop t places)) ≡ replayed n k (decoded kinds places))
+Inv-loop kinds places step₀ t₀ step t = (t ≤ length kinds) × (ending step (decoded (drop t kinds) (drop t places)) ≡ ending step₀ (decoded kinds places))
 
 abbrev μ-loop : tie.MeasureT-loop
-μ-loop n k kinds places step₀ t₀ step t = length kinds - t
+μ-loop kinds places step₀ t₀ step t = length kinds - t
 
 -- the refusal that the open reports
-refusal-of : (c : tie.After-open Inv-loop μ-loop)
-    → c .«open» .result .answer .refusal ≡ checkCycles (c .before .before .before .args .n) (c .before .before .before .args .k)
-refusal-of c = ap (λ s. s .answer .refusal) (c .«open» .ensures) ∙ opened-refusal (c .before .before .before .args .n) (c .before .before .before .args .k)
+refusal-of : (c : tie.After-make-opening Inv-loop μ-loop) → c .make-opening .result .answer .refusal ≡ checkOpening (c .before .before .before .args .opening)
+refusal-of c = ap (λ s. s .answer .refusal) (c .make-opening .ensures) ∙ opened-refusal (c .before .before .before .args .opening)
 
-open-requires : tie.Need-open-requires Inv-loop μ-loop
-open-requires c κs = search needs
+make-opening-requires : tie.Need-make-opening-requires Inv-loop μ-loop
+make-opening-requires c κs = search needs
 
 returns : tie.Need-returns Inv-loop μ-loop
 returns c =
     let a = c .before .before .before .before .before .args in
-    c .before .before .«open» .ensures
-    ∙ sym (replayed-refused (a .n) (a .k) (decoded (now (a .kinds)) (now (a .places))) (λ e. c .if1 .taken (refusal-of (c .before .before) ∙ e)))
+    c .before .before .make-opening .ensures
+    ∙ sym (replayed-refused (a .opening) (decoded (now (a .kinds)) (now (a .places))) (λ e. c .if1 .taken (refusal-of (c .before .before) ∙ e)))
 
 loop-holds : tie.Need-loop-holds Inv-loop μ-loop
-loop-holds c =
-    let a = c .before .before .before .before .before .args in
-    let e = sym (refusal-of (c .before .before)) ∙ c .if1 .left in
-    (omega arith, rw (c .before .before .«open» .ensures) (ending-opened (a .n) (a .k) (decoded (now (a .kinds)) (now (a .places))) e))
+loop-holds c = (omega arith, refl)
 
 shared-slice-read-make-call : tie.Need-shared-slice-read-make-call Inv-loop μ-loop
 shared-slice-read-make-call c = omega arith
@@ -64,7 +59,15 @@ returns-2 c =
     let a = c .before .before .before .before .before .before .before .args in
     let l = c .before .loop in
     let none = decoded-past (now (a .kinds)) (drop (l .t) (now (a .places))) (l .t) (omega arith) in
-    sym (ending-last (l .step)) ∙ ap (ending (l .step)) (sym none) ∙ l .inv .1
+    let served = c .before .before in
+    let opens = served .before .before in
+    let e = sym (refusal-of opens) ∙ served .if1 .left in
+    let calls = decoded (now (a .kinds)) (now (a .places)) in
+    sym (ending-last (l .step))
+    ∙ ap (ending (l .step)) (sym none)
+    ∙ l .inv .1
+    ∙ ap (λ step. ending step calls) (opens .make-opening .ensures)
+    ∙ ending-opened (a .opening) calls e
 
 pub replay-spec : {M : Type 1} → statement M
 replay-spec =
@@ -72,7 +75,7 @@ replay-spec =
     (tie.spec
     Inv-loop
     μ-loop
-    open-requires
+    make-opening-requires
     returns
     loop-holds
     shared-slice-read-make-call

@@ -4,11 +4,11 @@ use borrow.Author.Needs.{needs}
 use Rattle.cursor.proofs.Cursor.back.Statement.{statement}
 use Rattle.cursor.proofs.Cursor.back.Tie as tie
 
-ring-step-requires : tie.Need-ring-step-requires
-ring-step-requires c κs = search needs
+section-step-requires : tie.Need-section-step-requires
+section-step-requires c κs = search needs
 
 returns : tie.Need-returns
-returns c = c .ring-step .ensures
+returns c = c .section-step .ensures
 
 pub back-spec : {M : Type 1} → statement M
-back-spec = tie.close (tie.spec ring-step-requires returns)
+back-spec = tie.close (tie.spec section-step-requires returns)

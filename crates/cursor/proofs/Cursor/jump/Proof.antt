@@ -1,10 +1,13 @@
 -- `Cursor::jump` meets its contract: each return is one outcome of the call. Assumes nothing.
 use mathlib.Core.Path.{_≡_, sym, _∙_}
-use mathlib.Core.Bool.{true}
+use mathlib.Core.Bool.{true, false}
+use Prim.Native.Nat.{ℕ}
 use native.Mathlib.Omega.{arith}
 use borrow.Author.Needs.{needs}
-use borrow.Author.Tests.{le-leb, lt-leb}
+use lib.Dec.{leb}
+use borrow.Author.Tests.{le-leb, lt-leb, leb-false, not-true, not-false}
 use Rattle.stirling.specs.Count.{c as count-of}
+use Rattle.cursor.specs.declared.Cursor.{Cursor}
 use Rattle.cursor.specs.Machine.{jump, refusalOf, moved}
 use Rattle.cursor.specs.Walk.{machineOf, sound}
 use Rattle.cursor.proofs.Calls.{on-moved, on-passes}
@@ -16,6 +19,19 @@ use Rattle.cursor.proofs.Cursor.jump.Tie as tie
 -- past the first test the record is sound
 passed : (c : tie.Else1) → sound (c .before .before .args .self) ≡ true
 passed c = passes (c .before .is-sound .ensures) (c .if1 .left)
+
+-- past the second test the place
+abbrev walk : tie.Else2 → Cursor
+walk c = c .before .before .before .before .args .self
+
+abbrev place-of : tie.Else2 → ℕ
+place-of c = c .before .before .before .before .args .place
+
+-- is one of the list
+listed : (c : tie.Else2) → leb (count-of (walk c .n) (walk c .k)) (place-of c) ≡ false
+listed c =
+    let count = sound-count (walk c) (passed (c .before .before)) in
+    lt-leb (count-of (walk c .n) (walk c .k)) (place-of c) (omega arith)
 
 is-sound-requires : tie.Need-is-sound-requires
 is-sound-requires c κs = search needs
@@ -41,27 +57,43 @@ returns-2 c =
     let w = a .self in
     let count = sound-count w (passed tested) in
     let past : refusalOf (machineOf w) (jump (a .place)) ≡ 3 = rw (le-leb (count-of (w .n) (w .k)) (a .place) (omega arith)) in
-    c .refused2 .ensures ∙ sym (called-refused w (jump (a .place)) 2 (passed tested) past)
+    c .refused2 .ensures ∙ sym (called-refused w (jump (a .place)) 3 (passed tested) past (λ e. omega arith))
+
+is-within-requires : tie.Need-is-within-requires
+is-within-requires c κs = search needs
+
+refused-requires-3 : tie.Need-refused-requires-3
+refused-requires-3 c κs = search needs
+
+returns-3 : tie.Need-returns-3
+returns-3 c =
+    let found = c .before .before in
+    let w = walk (found .before) in
+    let place = place-of (found .before) in
+    let outside = sym (found .is-within .ensures) ∙ not-true (found .is-within .result) (c .before .if3 .taken) in
+    let out : refusalOf (machineOf w) (jump place) ≡ 13 = rw (listed (found .before), outside) in
+    c .refused3 .ensures ∙ sym (called-refused w (jump place) 13 (passed (found .before .before .before)) out (λ e. omega arith))
 
 cursor-at-requires : tie.Need-cursor-at-requires
 cursor-at-requires c κs =
-    let tested = c .before .before in
-    let a = tested .before .before .args in
-    let m = machineOf (a .self) in
-    let count = sound-count (a .self) (passed tested) in
-    on-passes (moved m (a .place)) (on-moved m (sound-on (a .self) (passed tested)) (a .place) (omega arith))
+    let below = c .before .before in
+    let m = machineOf (walk below) in
+    let on = sound-on (walk below) (passed (below .before .before)) in
+    let place = place-of below in
+    on-passes (moved m place) (on-moved m on place (leb-false (count-of (m .n) (m .k)) place (listed below)))
 
 bare-answer-requires : tie.Need-bare-answer-requires
 bare-answer-requires c κs = search needs
 
-returns-3 : tie.Need-returns-3
-returns-3 c =
-    let tested = c .before .before .before .before in
-    let a = tested .before .before .args in
-    let w = a .self in
-    let count = sound-count w (passed tested) in
-    let below : refusalOf (machineOf w) (jump (a .place)) ≡ 0 = rw (lt-leb (count-of (w .n) (w .k)) (a .place) (omega arith)) in
-    rw (c .bare-answer .ensures, c .before .cursor-at .ensures) (sym (called-moves w (jump (a .place)) (passed tested) below))
+returns-4 : tie.Need-returns-4
+returns-4 c =
+    let inside = c .before .before in
+    let found = inside .before in
+    let w = walk (found .before) in
+    let place = place-of (found .before) in
+    let within = sym (found .is-within .ensures) ∙ not-false (found .is-within .result) (inside .if3 .left) in
+    let served : refusalOf (machineOf w) (jump place) ≡ 0 = rw (listed (found .before), within) in
+    rw (c .bare-answer .ensures, c .before .cursor-at .ensures) (sym (called-moves w (jump place) (passed (found .before .before .before)) served))
 
 pub jump-spec : {M : Type 1} → statement M
 jump-spec =
@@ -73,6 +105,9 @@ jump-spec =
     lookup-requires
     refused-requires-2
     returns-2
+    is-within-requires
+    refused-requires-3
+    returns-3
     cursor-at-requires
     bare-answer-requires
-    returns-3)
+    returns-4)

@@ -1,50 +1,64 @@
--- `Cursor::open` meets its contract: where checks 1 and 2 pass, place 0 is a place of the list. Assumes nothing.
-use mathlib.Core.Path.{_≡_}
+-- `Cursor::open` meets its contract: where the checks 1 and 2 pass, it is the section of the whole list. Assumes nothing.
+use mathlib.Core.Path.{_≡_, sym, ap, _∙_}
 use native.Mathlib.Omega.{arith}
 use borrow.Author.Needs.{needs}
-use Rattle.stirling.specs.Count.{checkCycles}
+use Rattle.stirling.specs.Count.{c as count-of, checkCycles}
 use Rattle.stirling.proofs.Refusals.{unless-refuses}
-use Rattle.cursor.specs.Walk.{start, opened}
-use Rattle.cursor.proofs.Calls.{start-on, on-passes}
+use Rattle.stirling.proofs.Counts.{cycles-passed, looked-up}
+use Rattle.cursor.specs.declared.Opening.the-variants.{Section}
+use Rattle.cursor.specs.Walk.{opened}
+use Rattle.cursor.proofs.Calls.{opened-whole}
 use Rattle.cursor.proofs.Cursor.open.Statement.{statement}
 use Rattle.cursor.proofs.Cursor.open.Tie as tie
 
 -- past the test checks 1 and 2 pass
 passed : (c : tie.Else1) → checkCycles (c .before .before .args .n) (c .before .before .args .k) ≡ 0
-passed c = omega arith
+passed c = sym (c .before .check-cycles .ensures) ∙ c .if1 .left
+
+-- so what is looked up is the count
+counted : (c : tie.After-lookup) → c .lookup .result ≡ count-of (c .before .before .before .args .n) (c .before .before .before .args .k)
+counted c =
+    let a = c .before .before .before .args in
+    c .lookup .ensures ∙ looked-up (a .n) (a .k) (cycles-passed (a .n) (a .k) (passed (c .before)) .0)
 
 check-cycles-requires : tie.Need-check-cycles-requires
 check-cycles-requires c κs = search needs
 
-bare-answer-requires : tie.Need-bare-answer-requires
-bare-answer-requires c κs = search needs
+not-opened-requires : tie.Need-not-opened-requires
+not-opened-requires c κs = search needs
 
 returns : tie.Need-returns
 unfolding opened
 returns c =
+    let checked = c .before .before in
+    let a = checked .before .args in
+    let refused : checkCycles (a .n) (a .k) ≡ 0 → ⊥ = λ e. c .before .if1 .taken (checked .check-cycles .ensures ∙ e) in
+    rw (unless-refuses (checkCycles (a .n) (a .k)) _ _ refused, c .not-opened .ensures, checked .check-cycles .ensures)
+
+lookup-requires : tie.Need-lookup-requires
+lookup-requires c κs = search needs
+
+sub-open-section : tie.Need-sub-open-section
+sub-open-section c =
     let a = c .before .before .before .args in
-    let refused : checkCycles (a .n) (a .k) ≡ 0 → ⊥ = λ e. omega arith in
-    rw (unless-refuses (checkCycles (a .n) (a .k)) _ _ refused, c .bare-answer .ensures, c .before .before .check-cycles .ensures)
+    omega (arith, counted c, cycles-passed (a .n) (a .k) (passed (c .before)))
 
-cursor-at-requires : tie.Need-cursor-at-requires
-cursor-at-requires c κs =
-    let a = c .before .before .args in
-    on-passes (start (a .n) (a .k)) (start-on (a .n) (a .k) (passed c))
-
-bare-answer-requires-2 : tie.Need-bare-answer-requires-2
-bare-answer-requires-2 c κs = search needs
+open-section-requires : tie.Need-open-section-requires
+open-section-requires c κs = search needs
 
 returns-2 : tie.Need-returns-2
-unfolding opened
-returns-2 c = rw (passed (c .before .before), c .bare-answer2 .ensures, c .before .cursor-at .ensures)
+returns-2 c =
+    let a = c .before .before .before .before .args in
+    c .open-section .ensures ∙ rw (counted (c .before)) (sym (opened-whole (a .n) (a .k)))
 
 pub open-spec : {M : Type 1} → statement M
 open-spec =
     tie.close
     (tie.spec
     check-cycles-requires
-    bare-answer-requires
+    not-opened-requires
     returns
-    cursor-at-requires
-    bare-answer-requires-2
+    lookup-requires
+    sub-open-section
+    open-section-requires
     returns-2)
