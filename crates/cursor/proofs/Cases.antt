@@ -8,7 +8,7 @@ use Rattle.perm.specs.Permutation.{exchange, fixed, extend, insert}
 use Rattle.perm.specs.Array.{position, arrayOf}
 use Rattle.gray.specs.Order.{S, relation, relationA, relationB, relationC, relationD, relationE, letter, joined, rows, reading, odd, rising, falling}
 use Rattle.cursor.specs.Machine.{Machine, Call, forward, back, jump, show, observe, firstFrom, moved, turn, bare, answered}
-use Rattle.cursor.specs.Walk.{sound, called, start, zeros, opened}
+use Rattle.cursor.specs.Walk.{sound, called, section, start, zeros, opened}
 use Rattle.cursor.specs.declared.Answer.{Answer}
 use Rattle.cursor.specs.declared.Opening.the-variants.{Whole, Section}
 
@@ -61,6 +61,24 @@ pub record Table : Type 0 where
   -- 2,1, a list of one: forward is refused 9 and back 10
   pub forward-2-1 : Goes (start 2 1) forward 0 (bare 9)
   pub back-2-1 : Goes (start 2 1) back 0 (bare 10)
+  -- document 02, h), 5,3, the section from 13 to 15: its open; within it, its steps; at its ends 9 and 10; a jump past the list is refused 3, and out of the section 13
+  pub open-5-3 : opened (Section 5 3 13 15) ≡ record { cursor = observe (section 5 3 13 15); answer = bare 0 }
+  pub next-5-3 : Goes (section 5 3 13 15) forward 14 (three 2 3 5)
+  pub first-5-3 : Goes (section 5 3 13 15) back 13 (bare 10)
+  pub last-5-3 : Goes (moved (section 5 3 13 15) 15) forward 15 (bare 9)
+  pub jump-5-3-15 : Goes (section 5 3 13 15) (jump 15) 15 (bare 0)
+  pub jump-5-3-12 : Goes (section 5 3 13 15) (jump 12) 13 (bare 13)
+  pub jump-5-3-16 : Goes (section 5 3 13 15) (jump 16) 13 (bare 13)
+  pub jump-5-3-35 : Goes (section 5 3 13 15) (jump 35) 13 (bare 3)
+  -- a section of one place in a list of two stops both ways
+  pub forward-3-1-1 : Goes (section 3 1 1 1) forward 1 (bare 9)
+  pub back-3-1-1 : Goes (section 3 1 1 1) back 1 (bare 10)
+  -- the whole of that list, opened as a section, turns round
+  pub open-3-1 : opened (Section 3 1 0 1) ≡ opened (Whole 3 1)
+  -- an end past the list is refused 3, whichever it is and whatever the order; then the order 13; a refused open hands back a walk of zeros
+  pub open-3-1-lowest : opened (Section 3 1 2 0) ≡ record { cursor = zeros; answer = bare 3 }
+  pub open-3-1-highest : opened (Section 3 1 1 2) ≡ record { cursor = zeros; answer = bare 3 }
+  pub open-3-1-order : opened (Section 3 1 1 0) ≡ record { cursor = zeros; answer = bare 13 }
 
 pub table : Table
 unfolding S relation relationA relationB relationC relationD relationE letter joined rows reading odd rising falling range insert extend c position firstFrom answered opened called sound observe turn same arrayOf exchange fixed tally
@@ -85,4 +103,18 @@ table =
       around-3-1 = refl;
       forward-2-1 = refl;
       back-2-1 = refl;
+      open-5-3 = refl;
+      next-5-3 = refl;
+      first-5-3 = refl;
+      last-5-3 = refl;
+      jump-5-3-15 = refl;
+      jump-5-3-12 = refl;
+      jump-5-3-16 = refl;
+      jump-5-3-35 = refl;
+      forward-3-1-1 = refl;
+      back-3-1-1 = refl;
+      open-3-1 = refl;
+      open-3-1-lowest = refl;
+      open-3-1-highest = refl;
+      open-3-1-order = refl;
     }

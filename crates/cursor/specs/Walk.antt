@@ -1,6 +1,6 @@
 -- Document 01's *walk* as a record that a caller hands in, sound or not: what each call gives for EVERY record. These are definitions; nothing is assumed.
 use mathlib.Core.Path.{_≡_}
-use Prim.Native.Nat.{ℕ, zero, suc, _-_, _<_}
+use Prim.Native.Nat.{ℕ, zero, suc, _-_, _≤_, _<_}
 use mathlib.Core.Bool.{Bool, not, cond, _&&_}
 use mathlib.Core.List.{List, [], _∷_}
 use lib.Dec.{eqb, ltb}
@@ -77,6 +77,26 @@ walkRun opening calls = opened opening ∷ callsRun (opened opening .cursor) cal
 abbrev pub plainRun : Opening → List Call → List Step
 plainRun opening calls = record { cursor = observe (startOf opening); answer = bare 0 } ∷ machineRun (startOf opening) calls
 
+-- of each record that a list of steps hands back
+unfoldable pub Each : (Cursor → Type 0) → List Step → Type 0
+Each P [] = Unit {0}
+Each P (step ∷ steps) = P (step .cursor) × Each P steps
+
+-- document 02, h): a record keeps to the section of a machine: it has its n, k and bounds, and lowest ≤ place ≤ highest
+pub record KeepsTo (m : Machine) (w : Cursor) : Type 0 where
+  pub list : (w .n ≡ m .n) × (w .k ≡ m .k)
+  pub bounds : (w .lowest ≡ m .lowest) × (w .highest ≡ m .highest)
+  pub inside : (m .lowest ≤ w .place) × (w .place ≤ m .highest)
+
+-- the permutation that a record holds
+abbrev pub permutationOf : Cursor → Row
+permutationOf w = take (w .n) (w .perm)
+
+-- two records that do not show the same permutation: they hold different ones, and show hands out different ones
+pub record ShowsOther (w v : Cursor) : Type 0 where
+  pub held : permutationOf w ≡ permutationOf v → ⊥
+  pub shown : called w show .answer .perm ≡ called v show .answer .perm → ⊥
+
 -- document 02, g): a call undoes another on a record: it hands the record back, with the three positions the other way round, and is refused only if the other was
 pub record Undone (w : Cursor) (call other : Call) : Type 0 where
   pub same-record : called (called w call .cursor) other .cursor ≡ w
@@ -87,10 +107,6 @@ pub record Undone (w : Cursor) (call other : Call) : Type 0 where
 unfoldable pub forwards : ℕ → Cursor → Cursor
 forwards zero w = w
 forwards (suc t) w = called (forwards t w) forward .cursor
-
--- its permutation
-abbrev pub permutationOf : Cursor → Row
-permutationOf w = take (w .n) (w .perm)
 
 -- once round the list from a record on: c(n,k) forwards meet every permutation of n with k cycles exactly once, and nothing else, and end where they began
 pub record Round (w : Cursor) : Type 0 where

@@ -1,4 +1,4 @@
--- The request's demands 2 and 3 as theorems, and what document 02, b) to g), adds, to be read from top to bottom beside them. Each is a law of a crate below, stated
+-- The request's demands 2 and 3 as theorems, and what document 02, b) to h), adds, to be read from top to bottom beside them. Each is a law of a crate below, stated
 -- in full here so that nothing has to be looked up but the definitions in specs/. What demand 1 asks is met by the proofs of the functions themselves
 -- (docs/DEMANDS.md says how). Assumes nothing.
 use mathlib.Core.Path.{_≡_, _∙_, sym, ap}
@@ -9,7 +9,7 @@ use mathlib.Core.List.{List, _∷_, _++_}
 use lib.Dec.{eqb}
 use lib.ListN.{length, getD, take}
 use Rattle.stirling.specs.Refusal.{refuse, unless}
-use Rattle.stirling.specs.Count.{c, countOf, checkCycles, checkPlace}
+use Rattle.stirling.specs.Count.{c, countOf, checkCycles}
 use Rattle.stirling.proofs.Counts.{cycles-passes, cycles-passed, fits}
 use Rattle.perm.specs.Lists.{tally, positions}
 use Rattle.perm.specs.Permutation.{IsPermutation, at, fixed, distance}
@@ -23,7 +23,7 @@ use Rattle.perm.proofs.Cases as FixedPoints
 use Rattle.gray.specs.declared.Block.the-variants.{Extend as E}
 use Rattle.gray.specs.Order.{Row, S, letter}
 use Rattle.gray.specs.Blocks.{blocks}
-use Rattle.gray.specs.Listing.{HasCycles, Complete, Neighbours, Closed}
+use Rattle.gray.specs.Listing.{rowAt, HasCycles, Complete, Neighbours, Closed}
 use Rattle.gray.proofs.Once as Once
 use Rattle.gray.proofs.Neighbours as Neighbours
 use Rattle.gray.proofs.Cases as Cases
@@ -60,14 +60,16 @@ use Rattle.inversion.proofs.Cases as Inversions
 use Rattle.sequences.specs.Listed.{Made, CompleteLows}
 use Rattle.sequences.proofs.Listed.{lows-cycles, sequences-of, one-list, complete-lows, length-sequences}
 use Rattle.cursor.specs.declared.Cursor.{Cursor}
-use Rattle.cursor.specs.Machine.{Machine, Call, forward, back, show, Steps, observe, rowOf, refusalOf, moved, turn, IsStep, stepTo, answered}
-use Rattle.cursor.specs.Walk.{sound, called, start, walkRun, plainRun, Undone, Round}
+use Rattle.cursor.specs.declared.Opening.{Opening}
+use Rattle.cursor.specs.declared.Opening.the-variants.{Whole, Section}
+use Rattle.cursor.specs.Machine.{Machine, InSection, Call, forward, back, show, Steps, observe, rowOf, whole, refusalOf, moved, turn, IsStep, stepTo, answered}
+use Rattle.cursor.specs.Walk.{machineOf, sound, called, start, startOf, checkOpening, opened, walkRun, plainRun, Each, KeepsTo, permutationOf, ShowsOther, Undone, forwards, Round}
 use Rattle.cursor.proofs.Calls as Calls
-use Rattle.cursor.proofs.Calls.{placed}
 use Rattle.cursor.proofs.Steps as Steps
 use Rattle.cursor.proofs.Reported.{shown-number, no-number}
 use Rattle.cursor.proofs.Undone.{undone, by-back, by-forward}
 use Rattle.cursor.proofs.Round as Round
+use Rattle.cursor.proofs.Sections as Sections
 use Rattle.cursor.proofs.Cases as Walks
 
 -- ---- Demand 2: the counts, the lists, the places and the transposition arrays equal those of relations (a) to (e), from place to permutation and back
@@ -110,17 +112,17 @@ fixed-entries = cycles-product
 
 -- ---- Demand 3, first half: every list of calls
 
--- for every open that is not refused and every list of calls after it, each call getting the record that the one before handed back: after the open and
--- after each call, the record and the answer (refusal, three positions, what show hands out, the number of fixed points with it) are the plain machine's. One
--- claim about the whole list
-pub calls : (n k : ℕ) → checkCycles n k ≡ 0 → (cs : List Call) → walkRun n k cs ≡ plainRun n k cs
+-- for either open that is not refused, of the whole list or, as document 02, h), has it, of a section, and every list of calls after it, each call getting the record
+-- that the one before handed back: after the open and after each call, the record, with both bounds, and the answer (refusal, three positions, what show hands out, the
+-- number of fixed points with it) are the plain machine's. One claim about the whole list
+pub calls : (opening : Opening) → checkOpening opening ≡ 0 → (cs : List Call) → walkRun opening cs ≡ plainRun opening cs
 calls = Calls.calls
 
--- from every place that the checks 1, 2 and 3 pass: at each forward or back that is not refused the three positions are different, the first is the
+-- from every place of every section, the whole list among them: at each forward or back that is not refused the three positions are different, the first is the
 -- smallest, new = old·⟨i,j,l⟩, and no other three are so
-pub steps : (m : Machine) (call : Call) → checkPlace (m .n) (m .k) (m .place) ≡ 0 → Steps call → refusalOf m call ≡ 0
+pub steps : (m : Machine) (call : Call) → InSection m → Steps call → refusalOf m call ≡ 0
     → IsStep (m .n) (rowOf m) (rowOf (turn m call)) (answered m call .i) (answered m call .j) (answered m call .l)
-steps m call e = Steps.steps m call (placed (m .n) (m .k) (m .place) e)
+steps = Steps.steps
 
 -- ---- Demand 3, second half: the lists. For all n and k, so for all that the checks pass, n = 0 with k = 0 among them
 
@@ -332,19 +334,48 @@ pub first-to-last : (n k : ℕ) → checkCycles n k ≡ 0 → 2 ≤ c n k
     → called (observe (start n k)) back ≡ stepTo (start n k) (c n k - 1)
 first-to-last = Round.first-to-last
 
--- on a record that passes check 8 forward is refused 9 and back 10 on a list of one permutation, the empty list of n = 0 among them, and on no other
-pub refused-alone : (w : Cursor) → sound w ≡ true
+-- on a record of the whole list that passes check 8 forward is refused 9 and back 10 on a list of one permutation, the empty list of n = 0 among them, and on no other
+pub refused-alone : (w : Cursor) → sound w ≡ true → whole (machineOf w) ≡ true
     → (called w forward .answer .refusal ≡ refuse (eqb (c (w .n) (w .k)) 1) 9) × (called w back .answer .refusal ≡ refuse (eqb (c (w .n) (w .k)) 1) 10)
-refused-alone = Round.refused-alone
+refused-alone w e all = let (last, first) = Round.refused-ends w e in (last ∙ rw all, first ∙ rw all)
 
--- forward then back gives the record that it started from, with the three positions the other way round, and back then forward too: at every place of every list, and
--- even on a record that fails check 8, which both hand back
-pub forward-back : (w : Cursor) → Undone w forward back
+-- forward then back gives the record that it started from, with the three positions the other way round, and back then forward too: on the whole list at every place,
+-- and in a section wherever the first step is not refused
+pub forward-back : (w : Cursor) → (called w forward .answer .refusal ≡ 0) ⊎ (whole (machineOf w) ≡ true) → Undone w forward back
 forward-back w = undone w forward back by-back
 
-pub back-forward : (w : Cursor) → Undone w back forward
+pub back-forward : (w : Cursor) → (called w back .answer .refusal ≡ 0) ⊎ (whole (machineOf w) ≡ true) → Undone w back forward
 back-forward w = undone w back forward by-forward
 
--- from whatever place a planner starts, c(n,k) forwards meet every permutation of n with k cycles exactly once, and nothing else, and end where they began
-pub once-round : (w : Cursor) → sound w ≡ true → Round w
+-- from whatever place of the whole list a planner starts, c(n,k) forwards meet every permutation of n with k cycles exactly once, and nothing else, and end where they
+-- began
+pub once-round : (w : Cursor) → sound w ≡ true → whole (machineOf w) ≡ true → Round w
 once-round = Round.once-round
+
+-- ---- Document 02, h): one planner, one section. `calls` and `steps` above are about either open and its bounds
+
+-- the plain open is the section of the whole list, from place 0 to the last
+pub plain-open : (n k : ℕ) → opened (Whole n k) ≡ opened (Section n k 0 (c n k - 1))
+plain-open = Calls.opened-whole
+
+-- on a record of a shorter section that passes check 8 forward is refused 9 at its highest place, back 10 at its lowest, and neither elsewhere
+pub refused-ends : (w : Cursor) → sound w ≡ true → whole (machineOf w) ≡ false
+    → (called w forward .answer .refusal ≡ refuse (eqb (w .place) (w .highest)) 9) × (called w back .answer .refusal ≡ refuse (eqb (w .place) (w .lowest)) 10)
+refused-ends w e shorter = let (last, first) = Round.refused-ends w e in (last ∙ rw shorter, first ∙ rw shorter)
+
+-- the calls never leave the section: in every record of every list of calls, n, k and both bounds are those of the open, and lowest ≤ place ≤ highest
+pub stays-inside : (opening : Opening) → checkOpening opening ≡ 0 → (cs : List Call) → Each (KeepsTo (startOf opening)) (walkRun opening cs)
+stays-inside = Sections.keeps
+
+-- two sections that do not overlap never show the same permutation, whatever calls are made on either: not in a record, and not by show
+pub never-shared : (n k lowest highest lowest′ highest′ : ℕ) → (highest < lowest′) ⊎ (highest′ < lowest)
+    → checkOpening (Section n k lowest highest) ≡ 0
+    → checkOpening (Section n k lowest′ highest′) ≡ 0
+    → (cs ds : List Call)
+    → Each (λ w. Each (ShowsOther w) (walkRun (Section n k lowest′ highest′) ds)) (walkRun (Section n k lowest highest) cs)
+never-shared = Sections.sections-differ
+
+-- and none of its permutations is left out: t forwards from the open of a section show the row t places after its lowest, up to its highest
+pub whole-section : (n k lowest highest : ℕ) → checkOpening (Section n k lowest highest) ≡ 0 → (t : ℕ) → lowest + t ≤ highest
+    → permutationOf (forwards t (opened (Section n k lowest highest) .cursor)) ≡ rowAt (S n k) (lowest + t)
+whole-section = Sections.section-rows
