@@ -51,7 +51,7 @@ fn as_shown() {
         assert_eq!(reported(&row).0, answer[7].parse().unwrap(), "{line}");
         shows += 1;
     }
-    assert_eq!(shows, 150);
+    assert_eq!(shows, 138);
 }
 
 /// n over f, times the permutations of n - f without a fixed point, have f of them.

@@ -11,12 +11,6 @@ ghost use lib.ListN.{length};
 // A number with one more digit is read up to here, so that it fits.
 const LARGE: u64 = 1000000000000000000;
 
-// A number, and a space.
-fn print_field(x: u64) {
-    print::number(x);
-    print::text(b" ");
-}
-
 // Twenty bytes in base ten, dots between.
 fn print_dotted(list: [u8; 20]) {
     print::number(list[0] as u64);
@@ -39,11 +33,11 @@ fn print_pair(perm: [u8; 20], array: [u8; 20]) {
 fn print_cursor(w: Cursor) {
     let perm = w.perm;
     let array = w.array;
-    print_field(w.n);
-    print_field(w.k);
-    print_field(w.place);
-    print_field(w.lowest);
-    print_field(w.highest);
+    print::field(w.n);
+    print::field(w.k);
+    print::field(w.place);
+    print::field(w.lowest);
+    print::field(w.highest);
     print_pair(perm, array);
 }
 
@@ -51,11 +45,11 @@ fn print_cursor(w: Cursor) {
 fn print_answer(to: Answer) {
     let perm = to.perm;
     let array = to.array;
-    print_field(to.refusal as u64);
-    print_field(to.i);
-    print_field(to.j);
-    print_field(to.l);
-    print_field(to.place);
+    print::field(to.refusal as u64);
+    print::field(to.i);
+    print::field(to.j);
+    print::field(to.l);
+    print::field(to.place);
     print_pair(perm, array);
     print::text(b" ");
     print::number(to.fixed);

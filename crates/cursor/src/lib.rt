@@ -65,8 +65,16 @@ pub struct Step {
 
 // The two opens, for a list of calls that is replayed: of the whole list S(n,k), and of a section of it.
 pub enum Opening {
-    Whole { n: u64, k: u64 },
-    Section { n: u64, k: u64, lowest: u64, highest: u64 },
+    Whole {
+        n: u64,
+        k: u64,
+    },
+    Section {
+        n: u64,
+        k: u64,
+        lowest: u64,
+        highest: u64,
+    },
 }
 
 // The array of a permutation, filled up with zeros, and the permutation's number of fixed points.
@@ -328,9 +336,17 @@ fn check_step(w: Cursor, onward: bool) -> u8
     ensures { λ r. ⌜ r ≡ refusalOf (machineOf w) (cond onward forward back) ⌝ }
 {
     if onward {
-        return if stops_at(w, w.highest) { REFUSED_LAST } else { 0 };
+        return if stops_at(w, w.highest) {
+            REFUSED_LAST
+        } else {
+            0
+        };
     }
-    if stops_at(w, w.lowest) { REFUSED_FIRST } else { 0 }
+    if stops_at(w, w.lowest) {
+        REFUSED_FIRST
+    } else {
+        0
+    }
 }
 
 // Forward, or back: a step within the section, and round the list if that is the section.
@@ -498,7 +514,12 @@ fn make_opening(opening: Opening) -> Step
 {
     match opening {
         Opening::Whole { n, k } => Cursor::open(n, k),
-        Opening::Section { n, k, lowest, highest } => Cursor::open_section(n, k, lowest, highest),
+        Opening::Section {
+            n,
+            k,
+            lowest,
+            highest,
+        } => Cursor::open_section(n, k, lowest, highest),
     }
 }
 

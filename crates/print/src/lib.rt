@@ -11,6 +11,12 @@ pub fn number(x: u64) {
     io::print_decimal(STDOUT_FILENO, x);
 }
 
+// A number in base ten, and a space.
+pub fn field(x: u64) {
+    number(x);
+    text(b" ");
+}
+
 // A byte in base ten, after a space.
 pub fn byte(b: u8) {
     text(b" ");
