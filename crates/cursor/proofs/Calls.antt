@@ -1,6 +1,6 @@
 -- Demand 3's claim about every list of calls: after either open and after each call, the record and the answer are the plain machine's.
 -- The machine stays within its section, and a record that shows it passes check 8. Assumes nothing.
-use mathlib.Core.Path.{_≡_, refl, ap, _∙_}
+use mathlib.Core.Path.{_≡_, refl, _∙_}
 use mathlib.Core.Bool.{true, not}
 use mathlib.Core.List.{List, [], _∷_}
 use Prim.Native.Nat.{ℕ, zero, suc, _-_, _≤_, _<_}

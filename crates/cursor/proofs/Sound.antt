@@ -4,8 +4,8 @@ use mathlib.Core.Bool.{Bool, true, false, _&&_}
 use borrow.Author.Tests.{eqb-true}
 use Rattle.stirling.specs.Refusal.{within}
 use Rattle.stirling.specs.Count.{checkPlace}
-use Rattle.stirling.proofs.Refusals.{and-true, within-holds, within-true}
-use Rattle.stirling.proofs.Counts.{cycles-passes, cycles-passed, place-passes, place-passed}
+use Rattle.stirling.proofs.Refusals.{and-true, within-true}
+use Rattle.stirling.proofs.Counts.{cycles-passes, place-passed}
 use Rattle.perm.specs.Lists.{same}
 use Rattle.perm.proofs.Tally.{refuted}
 use Rattle.cursor.specs.Machine.{InSection, observe}

@@ -17,7 +17,7 @@ use Rattle.perm.specs.Permutation.{IsPermutation, at, rotate}
 use Rattle.perm.proofs.Values.{injective, at-suc}
 use Rattle.perm.proofs.ArrayOf.{position-at}
 use Rattle.gray.specs.Order.{Row, S}
-use Rattle.gray.specs.Listing.{rowAt, Positions, Near}
+use Rattle.gray.specs.Listing.{Positions, Near}
 use Rattle.gray.proofs.Once.{length-S, complete}
 use Rattle.gray.proofs.Neighbours.{neighbours, closed}
 use Rattle.cursor.specs.Machine.{Machine, InSection, Call, forward, back, Steps, onward, backward, rowOf, whole, stops, placeAfter, refusalOf, destination, moved, turn, firstFrom, stepI, stepJ, stepL, IsStep, Reversed, stepped, answered}

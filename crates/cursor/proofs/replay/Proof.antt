@@ -5,7 +5,7 @@ use native.Mathlib.Omega.{arith}
 use lib.ListN.{length, drop}
 use denote.Ref.{now}
 use borrow.Author.Needs.{needs}
-use Rattle.cursor.specs.Walk.{checkOpening, decoded, replayed}
+use Rattle.cursor.specs.Walk.{checkOpening, decoded}
 use Rattle.cursor.proofs.Endings.{ending, ending-next, ending-last, ending-opened, replayed-refused, opened-refusal, decoded-next, decoded-past}
 use Rattle.cursor.proofs.replay.Statement.{statement}
 use Rattle.cursor.proofs.replay.Tie as tie

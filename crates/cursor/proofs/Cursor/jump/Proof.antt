@@ -6,6 +6,7 @@ use native.Mathlib.Omega.{arith}
 use borrow.Author.Needs.{needs}
 use lib.Dec.{leb}
 use borrow.Author.Tests.{le-leb, lt-leb, leb-false, not-true, not-false}
+use Rattle.stirling.specs.Refusal.{within}
 use Rattle.stirling.specs.Count.{c as count-of}
 use Rattle.cursor.specs.declared.Cursor.{Cursor}
 use Rattle.cursor.specs.Machine.{jump, refusalOf, moved}
@@ -32,6 +33,10 @@ listed : (c : tie.Else2) → leb (count-of (walk c .n) (walk c .k)) (place-of c)
 listed c =
     let count = sound-count (walk c) (passed (c .before .before)) in
     lt-leb (count-of (walk c .n) (walk c .k)) (place-of c) (omega arith)
+
+-- and the third test asks whether it is one of the section
+asked : (c : tie.After-is-within) → c .is-within .result ≡ within (walk (c .before) .lowest) (walk (c .before) .highest) (place-of (c .before))
+asked c = c .is-within .ensures
 
 is-sound-requires : tie.Need-is-sound-requires
 is-sound-requires c κs = search needs
@@ -70,7 +75,7 @@ returns-3 c =
     let found = c .before .before in
     let w = walk (found .before) in
     let place = place-of (found .before) in
-    let outside = sym (found .is-within .ensures) ∙ not-true (found .is-within .result) (c .before .if3 .taken) in
+    let outside = sym (asked found) ∙ not-true (found .is-within .result) (c .before .if3 .taken) in
     let out : refusalOf (machineOf w) (jump place) ≡ 13 = rw (listed (found .before), outside) in
     c .refused3 .ensures ∙ sym (called-refused w (jump place) 13 (passed (found .before .before .before)) out (λ e. omega arith))
 
@@ -91,8 +96,8 @@ returns-4 c =
     let found = inside .before in
     let w = walk (found .before) in
     let place = place-of (found .before) in
-    let within = sym (found .is-within .ensures) ∙ not-false (found .is-within .result) (inside .if3 .left) in
-    let served : refusalOf (machineOf w) (jump place) ≡ 0 = rw (listed (found .before), within) in
+    let there = sym (asked found) ∙ not-false (found .is-within .result) (inside .if3 .left) in
+    let served : refusalOf (machineOf w) (jump place) ≡ 0 = rw (listed (found .before), there) in
     rw (c .bare-answer .ensures, c .before .cursor-at .ensures) (sym (called-moves w (jump place) (passed (found .before .before .before)) served))
 
 pub jump-spec : {M : Type 1} → statement M

@@ -1,11 +1,10 @@
 -- `Cursor::open` meets its contract: where the checks 1 and 2 pass, it is the section of the whole list. Assumes nothing.
-use mathlib.Core.Path.{_≡_, sym, ap, _∙_}
+use mathlib.Core.Path.{_≡_, sym, _∙_}
 use native.Mathlib.Omega.{arith}
 use borrow.Author.Needs.{needs}
 use Rattle.stirling.specs.Count.{c as count-of, checkCycles}
 use Rattle.stirling.proofs.Refusals.{unless-refuses}
 use Rattle.stirling.proofs.Counts.{cycles-passed, looked-up}
-use Rattle.cursor.specs.declared.Opening.the-variants.{Section}
 use Rattle.cursor.specs.Walk.{opened}
 use Rattle.cursor.proofs.Calls.{opened-whole}
 use Rattle.cursor.proofs.Cursor.open.Statement.{statement}
