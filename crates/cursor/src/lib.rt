@@ -319,13 +319,14 @@ fn is_whole(w: Cursor) -> bool
     w.lowest == 0 && w.highest + 1 == stirling::lookup(w.n, w.k)
 }
 
-// Whether a step from a record's place past an end of its section is refused: the whole list is closed, unless it has one permutation; a shorter section is not.
+// Whether a step from a record's place past an end of its section is refused: the whole list is closed, unless it has one permutation, at place 0; a shorter section
+// is not.
 fn stops_at(w: Cursor, end: u64) -> bool
     requires { ⌜ sound w ≡ true ⌝ }
     ensures { λ r. ⌜ r ≡ stops (machineOf w) end ⌝ }
 {
     if is_whole(w) {
-        return stirling::lookup(w.n, w.k) == 1;
+        return w.highest == 0;
     }
     w.place == end
 }

@@ -376,6 +376,6 @@ pub never-shared : (n k lowest highest lowest′ highest′ : ℕ) → (highest 
 never-shared = Sections.sections-differ
 
 -- and none of its permutations is left out: t forwards from the open of a section show the row t places after its lowest, up to its highest
-pub whole-section : (n k lowest highest : ℕ) → checkOpening (Section n k lowest highest) ≡ 0 → (t : ℕ) → lowest + t ≤ highest
+pub section-rows : (n k lowest highest : ℕ) → checkOpening (Section n k lowest highest) ≡ 0 → (t : ℕ) → lowest + t ≤ highest
     → permutationOf (forwards t (opened (Section n k lowest highest) .cursor)) ≡ rowAt (S n k) (lowest + t)
-whole-section = Sections.section-rows
+section-rows = Sections.section-rows

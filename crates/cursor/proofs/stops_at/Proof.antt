@@ -1,25 +1,27 @@
--- `cursor::stops_at` meets its contract: the whole list stops by its count, and a shorter section by its place. Assumes nothing.
-use mathlib.Core.Path.{sym, _∙_}
+-- `cursor::stops_at` meets its contract: the whole list has one permutation where its highest place is 0, and a shorter section stops by its place. Assumes nothing.
+use mathlib.Core.Path.{_≡_, sym, _∙_}
+use mathlib.Core.Bool.{true}
+use native.Mathlib.Numerals.{add-one}
+use lib.Dec.{eqb·suc-suc}
 use borrow.Author.Needs.{needs}
-use Rattle.cursor.proofs.Outcomes.{sound-count}
+use Rattle.cursor.specs.Machine.{whole}
+use Rattle.cursor.specs.Walk.{machineOf}
+use Rattle.cursor.proofs.Steps.{whole-bounds}
 use Rattle.cursor.proofs.stops_at.Statement.{statement}
 use Rattle.cursor.proofs.stops_at.Tie as tie
 
 is-whole-requires : tie.Need-is-whole-requires
 is-whole-requires c κs = search needs
 
-lookup-requires : tie.Need-lookup-requires
-lookup-requires c κs = search needs
-
 returns : tie.Need-returns
 returns c =
     let found = c .before .before in
-    let w = found .before .args .w in
-    let count = sound-count w (found .before .pre) .0 in
-    rw (sym (found .is-whole .ensures) ∙ c .before .if1 .taken, c .lookup .ensures, count)
+    let m = machineOf (found .before .args .w) in
+    let all : whole m ≡ true = sym (found .is-whole .ensures) ∙ c .before .if1 .taken in
+    rw (all, ← whole-bounds m all .1, add-one) (sym (eqb·suc-suc (m .highest) 0))
 
 returns-2 : tie.Need-returns-2
 returns-2 c = rw (sym (c .before .before .is-whole .ensures) ∙ c .before .if1 .left)
 
 pub stops-at-spec : {M : Type 1} → statement M
-stops-at-spec = tie.close (tie.spec is-whole-requires lookup-requires returns returns-2)
+stops-at-spec = tie.close (tie.spec is-whole-requires returns returns-2)
