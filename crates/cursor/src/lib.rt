@@ -193,7 +193,8 @@ fn is_within(lowest: u64, highest: u64, place: u64) -> bool
     lowest <= place && place <= highest
 }
 
-// Check 8: permutation and array are recomputed at the record's place, and all their bytes compared; the fixed points were counted on the way.
+// Check 8: the section is one of the list, and the place is in it; permutation and array are recomputed there, and all their bytes compared. The fixed points were
+// counted on the way.
 fn check_record(w: Cursor) -> Checked
     ensures { λ r. ⌜ r ≡ record { sound = sound w; fixed = cond (sound w) (fixed (rowOf (machineOf w))) 0 } ⌝ }
 {
