@@ -23,6 +23,11 @@ fails {found} e t = sym e ∙ not-true found t
 pub passes : {found right : Bool} → found ≡ right → not found ≡ false → right ≡ true
 passes {found} e t = sym e ∙ not-false found t
 
+-- two tests that pass together and fail together are one
+pub agree : (found right : Bool) → (found ≡ true → right ≡ true) → (found ≡ false → right ≡ false) → found ≡ right
+agree true right f g = sym (f refl)
+agree false right f g = sym (g refl)
+
 -- what forward and back answer where they are not refused
 pub given-step : (m : Machine) {call : Call} → Steps call → given m call ≡ stepped (rowOf m) (rowOf (moved m (destination m call)))
 given-step m onward = refl
