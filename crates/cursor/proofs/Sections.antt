@@ -1,5 +1,5 @@
--- What two planners who share a list rely on (document 02, h): every record of a walk keeps to its section, and walks through sections that do not overlap never show
--- the same permutation. Assumes nothing.
+-- What two planners who share a list rely on (document 02, h): every record of a walk keeps to its section, walks through sections that do not overlap never show the
+-- same permutation, and the forwards from the open of a section show its rows one by one. Assumes nothing.
 use mathlib.Core.Path.{_≡_, refl, sym, ap, _∙_}
 use mathlib.Core.Logic.{_⊎_, inl, inr}
 use mathlib.Core.Bool.{true}

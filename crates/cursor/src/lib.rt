@@ -414,7 +414,8 @@ impl Cursor {
         Cursor::open_section(n, k, 0, stirling::lookup(n, k) - 1)
     }
 
-    // A walk from the lowest place of a section of S(n,k), both ends included; it keeps to the section. Refusals 1, 2, 3 and 13, as `open` has them.
+    // A walk from the lowest place of a section of S(n,k), both ends included, that keeps to the section. Refusals 1, 2, 3 and 13; a refused open hands back a walk of
+    // zeros, as above.
     pub fn open_section(n: u64, k: u64, lowest: u64, highest: u64) -> Step
         ensures { λ r. ⌜ r ≡ opened (Opening.Section n k lowest highest) ⌝ }
     {
