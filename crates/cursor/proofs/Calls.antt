@@ -106,7 +106,7 @@ pub opened-whole : (n k : ℕ) → opened (Whole n k) ≡ opened (Section n k 0 
 unfolding opened
 opened-whole n k = rw (whole-checks n k)
 
--- the machine of an open that is not refused begins in its section
+-- a section whose open is not refused begins in itself
 section-in : (n k lowest highest : ℕ) → checkOpening (Section n k lowest highest) ≡ 0 → InSection (section n k lowest highest)
 section-in n k lowest highest e =
     let (ends, order) = then-passed (checkPlace n k lowest then checkPlace n k highest) (refuse (ltb highest lowest) 13) e in
@@ -119,6 +119,7 @@ section-in n k lowest highest e =
       last = last;
     }
 
+-- and so the machine of either open begins in its section
 pub start-in : (opening : Opening) → checkOpening opening ≡ 0 → InSection (startOf opening)
 start-in (Whole n k) e = section-in n k 0 (c n k - 1) (whole-checks n k ∙ e)
 start-in (Section n k lowest highest) e = section-in n k lowest highest e
