@@ -9,13 +9,13 @@ use lib.Dec.{leb, ltb}
 use borrow.Author.Tests.{lt-leb, le-ltb, ltb-false, not-false}
 use Rattle.stirling.specs.Refusal.{refuse, _then_, unless, within}
 use Rattle.stirling.specs.Count.{c, checkCycles, checkPlace}
-use Rattle.stirling.proofs.Refusals.{refuse-passed, then-passed, within-holds, within-true}
+use Rattle.stirling.proofs.Refusals.{refuse-passed, then-passed, unless-refuses, within-holds, within-true}
 use Rattle.stirling.proofs.Counts.{cycles-passes, cycles-passed, place-passes, place-passed}
 use Rattle.gray.proofs.Same.{same-refl}
 use Rattle.cursor.specs.declared.Opening.{Opening}
 use Rattle.cursor.specs.declared.Opening.the-variants.{Whole, Section}
-use Rattle.cursor.specs.Machine.{Machine, InSection, Call, forward, back, jump, show, Steps, onward, backward, observe, refusalOf, destination, moved, turn, turned, machineRun}
-use Rattle.cursor.specs.Walk.{sound, called, section, start, startOf, checkOpening, opened, callsRun, walkRun, plainRun}
+use Rattle.cursor.specs.Machine.{Machine, InSection, Call, forward, back, jump, show, Steps, onward, backward, observe, refusalOf, destination, moved, turn, bare, turned, machineRun}
+use Rattle.cursor.specs.Walk.{sound, called, section, start, startOf, checkOpening, zeros, opened, callsRun, walkRun, plainRun}
 use Rattle.cursor.proofs.Ring.{after-within, before-within}
 
 -- a machine on a place of a list
@@ -105,6 +105,11 @@ whole-checks n k = by-cycles (checkCycles n k) refl
 pub opened-whole : (n k : ℕ) → opened (Whole n k) ≡ opened (Section n k 0 (c n k - 1))
 unfolding opened
 opened-whole n k = rw (whole-checks n k)
+
+-- a refused open hands back a walk of zeros
+pub opened-refused : (opening : Opening) (r : ℕ) → r ≡ checkOpening opening → (r ≡ 0 → ⊥) → opened opening ≡ record { cursor = zeros; answer = bare r }
+unfolding opened
+opened-refused opening r e d = rw (← e) (unless-refuses r _ _ d)
 
 -- a section whose open is not refused begins in itself
 section-in : (n k lowest highest : ℕ) → checkOpening (Section n k lowest highest) ≡ 0 → InSection (section n k lowest highest)

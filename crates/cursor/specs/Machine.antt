@@ -67,11 +67,11 @@ whole m = eqb (m .lowest) 0 && eqb (m .highest + 1) (c (m .n) (m .k))
 abbrev pub stops : Machine → ℕ → Bool
 stops m end = cond (whole m) (eqb (c (m .n) (m .k)) 1) (eqb (m .place) end)
 
--- the place after another of a section: after the highest comes the lowest
+-- the place after another of a section, where the step is not refused: after the highest comes the lowest
 abbrev pub placeAfter : ℕ → ℕ → ℕ → ℕ
 placeAfter lowest highest place = cond (eqb place highest) lowest (place + 1)
 
--- and the place before: before the lowest comes the highest
+-- and the place before, likewise: before the lowest comes the highest
 abbrev pub placeBefore : ℕ → ℕ → ℕ → ℕ
 placeBefore lowest highest place = cond (eqb place lowest) highest (place - 1)
 

@@ -3,10 +3,9 @@ use mathlib.Core.Path.{_≡_, sym, _∙_}
 use native.Mathlib.Omega.{arith}
 use borrow.Author.Needs.{needs}
 use Rattle.stirling.specs.Count.{c as count-of, checkCycles}
-use Rattle.stirling.proofs.Refusals.{unless-refuses}
 use Rattle.stirling.proofs.Counts.{cycles-passed, looked-up}
-use Rattle.cursor.specs.Walk.{opened}
-use Rattle.cursor.proofs.Calls.{opened-whole}
+use Rattle.cursor.specs.declared.Opening.the-variants.{Whole}
+use Rattle.cursor.proofs.Calls.{opened-whole, opened-refused}
 use Rattle.cursor.proofs.Cursor.open.Statement.{statement}
 use Rattle.cursor.proofs.Cursor.open.Tie as tie
 
@@ -27,12 +26,10 @@ not-opened-requires : tie.Need-not-opened-requires
 not-opened-requires c κs = search needs
 
 returns : tie.Need-returns
-unfolding opened
 returns c =
     let checked = c .before .before in
     let a = checked .before .args in
-    let refused : checkCycles (a .n) (a .k) ≡ 0 → ⊥ = λ e. c .before .if1 .taken (checked .check-cycles .ensures ∙ e) in
-    rw (unless-refuses (checkCycles (a .n) (a .k)) _ _ refused, c .not-opened .ensures, checked .check-cycles .ensures)
+    c .not-opened .ensures ∙ sym (opened-refused (Whole (a .n) (a .k)) _ (checked .check-cycles .ensures) (c .before .if1 .taken))
 
 lookup-requires : tie.Need-lookup-requires
 lookup-requires c κs = search needs

@@ -1,11 +1,10 @@
 -- `Cursor::open_section` meets its contract: where its checks pass, the lowest place is a place of the list. Assumes nothing.
 use mathlib.Core.Path.{_≡_, sym, _∙_}
 use borrow.Author.Needs.{needs}
-use Rattle.stirling.proofs.Refusals.{unless-refuses}
 use Rattle.cursor.specs.declared.Opening.{Opening}
 use Rattle.cursor.specs.declared.Opening.the-variants.{Section}
 use Rattle.cursor.specs.Walk.{startOf, checkOpening, opened}
-use Rattle.cursor.proofs.Calls.{in-on, on-passes, start-in}
+use Rattle.cursor.proofs.Calls.{in-on, on-passes, opened-refused, start-in}
 use Rattle.cursor.proofs.Cursor.open_section.Statement.{statement}
 use Rattle.cursor.proofs.Cursor.open_section.Tie as tie
 
@@ -24,11 +23,9 @@ not-opened-requires : tie.Need-not-opened-requires
 not-opened-requires c κs = search needs
 
 returns : tie.Need-returns
-unfolding opened
 returns c =
     let checked = c .before .before in
-    let refused : checkOpening (opening (checked .before)) ≡ 0 → ⊥ = λ e. c .before .if1 .taken (checked .check-section .ensures ∙ e) in
-    rw (unless-refuses (checkOpening (opening (checked .before))) _ _ refused, c .not-opened .ensures, checked .check-section .ensures)
+    c .not-opened .ensures ∙ sym (opened-refused (opening (checked .before)) _ (checked .check-section .ensures) (c .before .if1 .taken))
 
 cursor-at-requires : tie.Need-cursor-at-requires
 cursor-at-requires c κs =
