@@ -95,7 +95,7 @@ sound = every HasCycles nothing by-extending by-inserting
         record { permutation = insert-permutation i l u (h .permutation); count = cycles-insert i l u (h .permutation) ∙ h .count }
 
 -- tests that agree at each place count alike
-tally-agree : (p q : Row → Bool) (L : List Row) → ((r : ℕ) → r < length L → p (rowAt L r) ≡ q (rowAt L r)) → tally p L ≡ tally q L
+pub tally-agree : (p q : Row → Bool) (L : List Row) → ((r : ℕ) → r < length L → p (rowAt L r) ≡ q (rowAt L r)) → tally p L ≡ tally q L
 unfolding tally
 tally-agree p q [] h = refl
 tally-agree p q (γ ∷ L) h = rw (h 0 (omega arith), tally-agree p q L (λ r b. h (suc r) (omega arith)))

@@ -15,7 +15,7 @@ use Rattle.rank.proofs.Around.{left-of, start-next}
 use Rattle.rank.proofs.Found.{puts-there}
 
 -- a reading is turned where the two differ
-differs : (backward odd : Bool) → not (Bool·beq backward odd) ≡ turned backward odd
+pub differs : (backward odd : Bool) → not (Bool·beq backward odd) ≡ turned backward odd
 differs true true = refl
 differs true false = refl
 differs false true = refl

@@ -111,7 +111,7 @@ taken-fails n k none out = by-size (eqb n 0) refl
     by-size false e = within-fails 1 n k out
 
 -- so it takes exactly the numbers of cycles that permutations of n have
-taken-counted : (n k : ℕ) → cyclesTaken n k ≡ ltb 0 (c n k)
+pub taken-counted : (n k : ℕ) → cyclesTaken n k ≡ ltb 0 (c n k)
 taken-counted zero zero = rw nothing
 taken-counted zero (suc k) = rw (taken-fails 0 (suc k) (λ e z. omega arith) (λ l h. omega arith), above 0 (suc k) (omega arith))
 taken-counted (suc n) zero = rw (taken-fails (suc n) 0 (λ e z. omega arith) (λ l h. omega arith), no-cycle (suc n) (omega arith))

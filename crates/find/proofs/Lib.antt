@@ -1,0 +1,10 @@
+pub mod Meeting
+pub mod Shorter
+pub mod Sums
+pub mod Counting
+pub mod Least
+pub mod Wishes
+pub mod Links
+pub mod Noting
+pub mod Possible
+pub mod Searching

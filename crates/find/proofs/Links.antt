@@ -1,0 +1,98 @@
+-- Wishes by position and positions by wish: what taking away the last position leaves of both, and the cycles that it closes. Assumes nothing.
+use mathlib.Core.Path.{_≡_, refl, sym, ap, _∙_}
+use Prim.Native.Nat.{ℕ, zero, suc, _+_, _-_, _≤_, _<_}
+use native.Mathlib.Omega.{arith}
+use native.Mathlib.Decide.{ℕ-discrete}
+use mathlib.Core.List.{List}
+use lib.Dec.{eqb}
+use lib.ListN.{length, getD, set}
+use lib.Seq.{getD-set-same, getD-set-other, set-getD}
+use Rattle.perm.specs.Lists.{one}
+use Rattle.perm.specs.Permutation.{at}
+use Rattle.perm.specs.Array.{position}
+use Rattle.find.specs.Counting.{Sound, smaller, closed}
+use Rattle.find.specs.Search.{wishesOf, Points, Linked}
+use Rattle.find.proofs.Counting.{wished-at, wished-nowhere}
+use Rattle.find.proofs.Wishes.{length-wishes, wish-at, wishes-none, wishes-left}
+
+-- linked wishes are sound
+pub linked-sound : {n : ℕ} (w p : List ℕ) → n < length w → Linked n w p → Sound n (wishesOf n w)
+linked-sound {n} w p h k = record {
+  size = length-wishes n w h;
+  bound = λ i l u. rw (wish-at n w i l u) (by-wish i l u (ℕ-discrete (getD w i 0) 0));
+  apart = λ i j li ui lj uj e d.
+      let ei = wish-at n w i li ui in
+      let same : getD w i 0 ≡ getD w j 0 = sym ei ∙ e ∙ wish-at n w j lj uj in
+      let di : getD w i 0 ≡ 0 → ⊥ = λ z. d (ei ∙ z) in
+      sym (k .wishes i li ui di .1) ∙ ap (λ (v : ℕ). getD p v 0) same ∙ k .wishes j lj uj (λ z. di (same ∙ z)) .1;
+}
+  where
+    by-wish : (i : ℕ) → 1 ≤ i → i ≤ n → Dec (getD w i 0 ≡ 0) → getD w i 0 ≤ n
+    by-wish i l u (yes z) = omega arith
+    by-wish i l u (no d) = k .wishes i l u d .0
+
+-- without the last position and the last value: the position that wished it wishes what the last did
+module _ (m : ℕ) (w p : List ℕ) (hw : suc m < length w) (hp : suc m < length p) where
+  abbrev x : ℕ
+  x = getD p (suc m) 0
+
+  abbrev v : ℕ
+  v = getD w (suc m) 0
+
+  one-side : Points (suc m) w p → Points m (set w x v) (set p v x)
+  one-side f i l u = by-position (ℕ-discrete i x)
+    where
+      by-position : Dec (i ≡ x) → (getD (set w x v) i 0 ≡ 0 → ⊥) → (getD (set w x v) i 0 ≤ m) × (getD (set p v x) (getD (set w x v) i 0) 0 ≡ i)
+      by-position (yes e) =
+          let here : getD (set w x v) i 0 ≡ v = ap (λ (j : ℕ). getD (set w x v) j 0) e ∙ getD-set-same w x v 0 (omega arith) in
+          rw here (λ d.
+              let (low, back) = f (suc m) (omega arith) (omega arith) d in
+              let top : v ≡ suc m → ⊥ = λ q. omega (arith, ap (λ (j : ℕ). getD p j 0) q) in
+              (omega arith, getD-set-same p v x 0 (omega arith) ∙ sym e))
+      by-position (no e) =
+          let here : getD (set w x v) i 0 ≡ getD w i 0 = getD-set-other w x i v 0 e in
+          rw here (λ d.
+              let (low, back) = f i l (omega arith) d in
+              let top : getD w i 0 ≡ suc m → ⊥ = λ q. e (sym back ∙ ap (λ (j : ℕ). getD p j 0) q) in
+              let other : getD w i 0 ≡ v → ⊥ = λ q.
+              let z = f (suc m) (omega arith) (omega arith) (λ o. d (q ∙ o)) .1 in
+              omega (arith, ap (λ (j : ℕ). getD p j 0) q) in
+              (omega arith, getD-set-other p v (getD w i 0) x 0 other ∙ back))
+
+-- both sides alike
+pub unlinked : (m : ℕ) (w p : List ℕ) → suc m < length w → suc m < length p → Linked (suc m) w p
+    → Linked m (set w (getD p (suc m) 0) (getD w (suc m) 0)) (set p (getD w (suc m) 0) (getD p (suc m) 0))
+unlinked m w p hw hp k = record {
+  wishes = one-side m w p hw hp (k .wishes);
+  positions = one-side m p w hp hw (k .positions);
+}
+
+-- and the cycles that the wishes close are those that are left to close, and one where the last position wishes itself
+module _ (m : ℕ) (w p : List ℕ) (h : suc m < length w) (k : Linked (suc m) w p) where
+  last-closed : (y : ℕ) → 1 ≤ y → y ≤ suc m → position (suc m) (wishesOf (suc m) w) ≡ y
+      → closed (suc m) (wishesOf (suc m) w) ≡ one (eqb (getD w (suc m) 0) (suc m)) + closed m (wishesOf m (set w y (getD w (suc m) 0)))
+  unfolding closed
+  last-closed y l u e =
+      let a = wishesOf (suc m) w in
+      rw e
+      (ap (λ (v : ℕ). one (eqb v (suc m)) + closed m (smaller m y a)) (wish-at (suc m) w (suc m) (omega arith) (omega arith))
+      ∙ ap (λ (b : List ℕ). one (eqb (getD w (suc m) 0) (suc m)) + closed m b) (sym (wishes-left m w y l u)))
+
+  pub unlinked-closed : closed (suc m) (wishesOf (suc m) w)
+      ≡ one (eqb (getD w (suc m) 0) (suc m)) + closed m (wishesOf m (set w (getD p (suc m) 0) (getD w (suc m) 0)))
+  unlinked-closed = by-position (ℕ-discrete (getD p (suc m) 0) 0)
+    where
+      by-position : Dec (getD p (suc m) 0 ≡ 0) → closed (suc m) (wishesOf (suc m) w)
+          ≡ one (eqb (getD w (suc m) 0) (suc m)) + closed m (wishesOf m (set w (getD p (suc m) 0) (getD w (suc m) 0)))
+      by-position (yes e) =
+          let none : (i : ℕ) → 1 ≤ i → i ≤ suc m → at (wishesOf (suc m) w) i ≡ suc m → ⊥ = λ i l u f.
+          let is : getD w i 0 ≡ suc m = sym (wish-at (suc m) w i l u) ∙ f in
+          let back = k .wishes i l u (λ z. omega arith) .1 in
+          omega (arith, ap (λ (j : ℕ). getD p j 0) is) in
+          last-closed (suc m) (omega arith) (omega arith) (wished-nowhere (linked-sound w p h k) none)
+          ∙ rw (set-getD w (suc m) 0, e, wishes-none m w (getD w (suc m) 0))
+      by-position (no d) =
+          let y = getD p (suc m) 0 in
+          let (u, is) = k .positions (suc m) (omega arith) (omega arith) d in
+          last-closed y (omega arith) u
+          (wished-at (linked-sound w p h k) y (omega arith) u (wish-at (suc m) w y (omega arith) u ∙ is))

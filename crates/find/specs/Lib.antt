@@ -1,0 +1,4 @@
+pub mod Meeting
+pub mod Find
+pub mod Counting
+pub mod Search

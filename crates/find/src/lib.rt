@@ -1,0 +1,291 @@
+// The first permutation of S(n,k), from a place on, that has the wished values at the positions with a wish.
+use gray::Block;
+use perm::REFUSED_LENT;
+use perm::REFUSED_VALUE;
+ghost use mathlib.Core.Path.{_≡_};
+ghost use Prim.Native.Nat.{_-_, _≤_, _<_};
+ghost use mathlib.Core.Bool.{true};
+ghost use lib.ListN.{length, getD, set};
+ghost use Rattle.stirling.specs.Count.{IsTable};
+ghost use Rattle.perm.specs.Lists.{some};
+ghost use Rattle.gray.specs.Order.{S};
+ghost use Rattle.gray.specs.Blocks.{blocks};
+ghost use Rattle.find.specs.Meeting.{meets};
+ghost use Rattle.find.specs.Find.{checkWishes, findOf, writtenBy};
+ghost use Rattle.find.specs.Counting.{closed};
+ghost use Rattle.find.specs.Search.{wishesOf, Linked, noted, AreByValue, partRead, enters, Searchable, Searched};
+
+// No permutation from the place on meets the wishes.
+pub const REFUSED_UNMET: u8 = 14;
+
+// The place of the permutation found. Zero on a refusal.
+#[repr(C)]
+pub struct Found {
+    pub refusal: u8,
+    pub place: u64,
+}
+
+// The wishes of a size, by the values: the position that wishes each, and 0 for a value that no position wishes; and how many positions are free. `sound` is false
+// where a value is wished twice or is above the size.
+struct ByValue {
+    sound: bool,
+    free: u64,
+    positions: [u8; 21],
+}
+
+// What stands below a block of S(n,k) in a reading: the position at which the block's rows have value n, and the list S(n-1,cycles) with its reading.
+struct Part {
+    position: u64,
+    cycles: u64,
+    backward: bool,
+}
+
+// Where a search stopped, the number of rows if it found none, and how many lists it went through.
+struct Search {
+    place: u64,
+    calls: u64,
+}
+
+// The wishes that are left below a block that puts value n at a position: what position n wishes, that position gets.
+fn smaller(w: [u8; 21], position: u64, n: u64) -> [u8; 21]
+    requires { ⌜ (position ≤ 20) × (n ≤ 20) ⌝ }
+    ensures { λ r. ⌜ r ≡ set w position (getD w n 0) ⌝ }
+{
+    let mut left = w;
+    left[position as usize] = w[n as usize];
+    left
+}
+
+// One position more.
+fn note(seen: ByValue, n: u64, position: u64, value: u8) -> ByValue
+    requires { ⌜ (n ≤ 20) × (position ≤ 20) × (seen .free < 20) ⌝ }
+    ensures { λ r. ⌜ r ≡ noted seen n position value ⌝ }
+{
+    if value == 0 {
+        return ByValue {
+            sound: seen.sound,
+            free: seen.free + 1,
+            positions: seen.positions,
+        };
+    }
+    let at = value as usize;
+    if value as u64 > n || seen.positions[at] != 0 {
+        return ByValue {
+            sound: false,
+            free: seen.free,
+            positions: seen.positions,
+        };
+    }
+    let mut positions = seen.positions;
+    positions[at] = position as u8;
+    ByValue {
+        sound: seen.sound,
+        free: seen.free,
+        positions,
+    }
+}
+
+// The wishes of n positions by the values.
+fn by_value(n: u64, w: [u8; 21]) -> ByValue
+    requires { ⌜ n ≤ 20 ⌝ }
+    ensures { λ r. ⌜ AreByValue n w r ⌝ }
+{
+    let mut seen = ByValue {
+        sound: true,
+        free: 0,
+        positions: [0u8; 21],
+    };
+    let mut i = 1;
+    while i <= n {
+        seen = note(seen, n, i, w[i as usize]);
+        i += 1;
+    }
+    seen
+}
+
+// How many cycles the wishes close.
+fn closed(n: u64, w: [u8; 21], p: [u8; 21]) -> u64
+    requires { ⌜ (n ≤ 20) × Linked n w p ⌝ }
+    ensures { λ r. ⌜ r ≡ closed n (wishesOf n w) ⌝ }
+{
+    let mut wishes = w;
+    let mut positions = p;
+    let mut count = 0;
+    let mut m = n;
+    while m > 0 {
+        let position = positions[m as usize];
+        let value = wishes[m as usize];
+        if value as u64 == m {
+            count += 1;
+        }
+        wishes[position as usize] = value;
+        positions[value as usize] = position;
+        m -= 1;
+    }
+    count
+}
+
+// Whether some row of S(n,k) meets the wishes.
+fn can_meet(n: u64, k: u64, w: [u8; 21]) -> bool
+    requires { ⌜ n ≤ 20 ⌝ }
+    ensures { λ r. ⌜ r ≡ some (meets (wishesOf n w)) (S n k) ⌝ }
+{
+    let seen = by_value(n, w);
+    if !seen.sound {
+        return false;
+    }
+    let positions = seen.positions;
+    let cycles = closed(n, w, positions);
+    if seen.free == 0 {
+        return k == cycles;
+    }
+    cycles < k && k <= cycles + seen.free
+}
+
+// What stands below the block with a number, counted as a reading of S(n,k) meets the blocks.
+fn part_at(n: u64, k: u64, backward: bool, number: u64) -> Part
+    requires { ⌜ number < length (blocks n k) ⌝ }
+    ensures { λ r. ⌜ r ≡ partRead n k backward number ⌝ }
+{
+    let block = if backward {
+        gray::block_count(n, k) - 1 - number
+    } else {
+        number
+    };
+    match gray::block_at(n, k, block) {
+        Block::Insert { position, reading } => Part {
+            position,
+            cycles: k,
+            backward: backward != (reading % 2 == 1),
+        },
+        Block::Extend { reading } => Part {
+            position: n,
+            cycles: k - 1,
+            backward: backward != (reading % 2 == 1),
+        },
+    }
+}
+
+// Whether some row of a block meets the wishes.
+fn can_enter(n: u64, part: Part, w: [u8; 21]) -> bool
+    requires { ⌜ (1 ≤ n) × (n ≤ 20) × (1 ≤ part .position) × (part .position ≤ n) ⌝ }
+    ensures { λ r. ⌜ r ≡ enters n part w ⌝ }
+{
+    let wish = w[part.position as usize];
+    if wish != 0 && wish as u64 != n {
+        return false;
+    }
+    can_meet(n - 1, part.cycles, smaller(w, part.position, n))
+}
+
+// How far a start lies behind the rows before a block.
+fn rest(start: u64, before: u64) -> u64
+    ensures { λ r. ⌜ r ≡ start - before ⌝ }
+{
+    if start < before {
+        return 0;
+    }
+    start - before
+}
+
+// The first row.
+fn first(counts: &[u64], n: u64, k: u64, backward: bool, start: u64, w: [u8; 21]) -> Search
+    requires { ⌜ IsTable (now counts) ⌝ }
+    requires { ⌜ Searchable n k start w ⌝ }
+    ensures { λ r. ⌜ Searched n k backward start w r ⌝ }
+{
+    if n == 0 {
+        return Search { place: 0, calls: 1 };
+    }
+    let count = gray::block_count(n, k);
+    let mut before = 0;
+    let mut calls = 1;
+    let mut number = 0;
+    while number < count {
+        let part = part_at(n, k, backward, number);
+        let next = before + stirling::entry(counts, n - 1, part.cycles);
+        if start < next && can_enter(n, part, w) {
+            let below = first(counts, n - 1, part.cycles, part.backward, rest(start, before), smaller(w, part.position, n));
+            calls += below.calls;
+            if below.place < next - before {
+                return Search {
+                    place: before + below.place,
+                    calls,
+                };
+            }
+        }
+        before = next;
+        number += 1;
+    }
+    Search {
+        place: before,
+        calls,
+    }
+}
+
+// A refusal, with zero.
+fn refused(refusal: u8) -> Found
+    ensures { λ r. ⌜ r ≡ record { refusal = refusal; place = 0 } ⌝ }
+{
+    Found { refusal, place: 0 }
+}
+
+// Check 6 on wishes.
+fn check_wishes(n: u64, wishes: &[u8]) -> u8
+    ensures { λ r. ⌜ r ≡ checkWishes n (now (wishes .entry)) ⌝ }
+{
+    let mut i = 0;
+    while i < wishes.len() {
+        if wishes[i] as u64 > n {
+            return REFUSED_VALUE;
+        }
+        i += 1;
+    }
+    0
+}
+
+// The wishes by position.
+fn by_position(wishes: &[u8]) -> [u8; 21]
+    requires { ⌜ length (now wishes) ≤ 20 ⌝ }
+    ensures { λ r. ⌜ wishesOf (length (now (wishes .entry))) r ≡ now (wishes .entry) ⌝ }
+{
+    let mut w = [0u8; 21];
+    let mut i = 0;
+    while i < wishes.len() {
+        w[i + 1] = wishes[i];
+        i += 1;
+    }
+    w
+}
+
+// The call.
+pub fn find(n: u64, k: u64, place: u64, wishes: &[u8], out: &mut [u8]) -> Found
+    ensures answer { λ r. ⌜ r ≡ findOf n k place (now (wishes .entry)) (length (now (out .entry))) ⌝ }
+    ensures row { λ r. ⌜ now (out .exit) ≡ writtenBy n k r (now (out .entry)) ⌝ }
+{
+    let counts = stirling::table();
+    let refusal = stirling::check_place_in(&counts, n, k, place);
+    if refusal != 0 {
+        return refused(refusal);
+    }
+    if wishes.len() as u64 != n || out.len() as u64 != n {
+        return refused(REFUSED_LENT);
+    }
+    let wish_refusal = check_wishes(n, wishes);
+    if wish_refusal != 0 {
+        return refused(wish_refusal);
+    }
+    let w = by_position(wishes);
+    if !can_meet(n, k, w) {
+        return refused(REFUSED_UNMET);
+    }
+    let search = first(&counts, n, k, false, place, w);
+    if search.place == stirling::entry(&counts, n, k) {
+        return refused(REFUSED_UNMET);
+    }
+    rank::unrank(n, k, search.place, out);
+    Found {
+        refusal: 0,
+        place: search.place,
+    }
+}

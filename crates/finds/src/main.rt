@@ -1,0 +1,65 @@
+// Prints a line for each search that `stdin` names, n, k, a place in eight bytes, its highest byte first, and n wishes, a byte each: n, k and the place, the wishes, and the place found and
+// its permutation, or the refusal. `stdout` comes from another author's generator.
+use libc::STDIN_FILENO;
+
+// The place that eight bytes name.
+fn place_of(bytes: &[u8]) -> u64 {
+    let mut place = 0;
+    let mut i = 0;
+    while i < bytes.len() {
+        place = place % 72057594037927936 * 256 + bytes[i] as u64;
+        i += 1;
+    }
+    place
+}
+
+// The answer of a search: `row` is as many bytes as there are wishes to write the permutation to.
+fn print_answer(n: u64, k: u64, place: u64, wishes: &[u8], row: &mut [u8]) {
+    let answer = find::find(n, k, place, wishes, row);
+    if answer.refusal != 0 {
+        print::text(b"refused ");
+        print::number(answer.refusal as u64);
+        return;
+    }
+    print::number(answer.place);
+    print::text(b" | ");
+    print::values(row);
+}
+
+// The line of a search.
+fn print_line(k: u64, place: u64, wishes: &[u8]) {
+    let n = wishes.len();
+    if 20 < n {
+        return;
+    }
+    print::field(n as u64);
+    print::field(k);
+    print::number(place);
+    print::text(b" | ");
+    print::values(wishes);
+    print::text(b" | ");
+    let mut row = [0u8; 20];
+    print_answer(n as u64, k, place, wishes, &mut row[..n]);
+    print::text(b"\n");
+}
+
+// The lines of all searches of a text.
+fn print_all(text: &[u8]) {
+    let mut at = 0;
+    while text.len() - at > 10 {
+        let n = text[at] as usize;
+        let from = at + 10;
+        if n > text.len() - from {
+            return;
+        }
+        let end = from + n;
+        print_line(text[at + 1] as u64, place_of(&text[at + 2..from]), &text[from..end]);
+        at = end;
+    }
+}
+
+fn main() {
+    let mut text = [0u8; 32768];
+    let size = io::read_full(STDIN_FILENO, &mut text);
+    print_all(&text[..size]);
+}
