@@ -3,9 +3,10 @@ use mathlib.Core.Path.{_≡_, refl, sym, ap, _∙_}
 use Prim.Native.Nat.{ℕ, zero, suc, _+_, _-_, _≤_, _<_}
 use native.Mathlib.Omega.{arith}
 use native.Mathlib.Decide.{ℕ-discrete}
+use mathlib.Core.Bool.{Bool, true, false}
 use mathlib.Core.List.{List}
 use lib.Dec.{eqb}
-use lib.ListN.{length, getD, set}
+use lib.ListN.{length, getD, set, length-set}
 use lib.Seq.{getD-set-same, getD-set-other, set-getD}
 use Rattle.perm.specs.Lists.{one}
 use Rattle.perm.specs.Permutation.{at}
@@ -96,3 +97,58 @@ module _ (m : ℕ) (w p : List ℕ) (h : suc m < length w) (k : Linked (suc m) w
           let (u, is) = k .positions (suc m) (omega arith) (omega arith) d in
           last-closed y (omega arith) u
           (wished-at (linked-sound w p h k) y (omega arith) u (wish-at (suc m) w y (omega arith) u ∙ is))
+
+-- taking away position after position: the cycles counted, and those that the wishes of the first m positions close, are all
+pub record Closing (n : ℕ) (w₀ w p : List ℕ) (count m : ℕ) : Type 0 where
+  pub small : m ≤ 20
+  pub sizes : (length w ≡ 21) × (length p ≡ 21)
+  pub linked : Linked m w p
+  pub counted : count + closed m (wishesOf m w) ≡ closed n (wishesOf n w₀)
+  pub few : count + m ≤ 20
+
+pub closing-begins : {n : ℕ} {w p : List ℕ} → n ≤ 20 → length w ≡ 21 → length p ≡ 21 → Linked n w p → Closing n w w p 0 n
+closing-begins h zw zp k = record { small = h; sizes = (zw, zp); linked = k; counted = omega arith; few = omega arith }
+
+pub closing-ends : {n : ℕ} {w₀ w p : List ℕ} {count : ℕ} → Closing n w₀ w p count 0 → count ≡ closed n (wishesOf n w₀)
+unfolding closed
+closing-ends c = omega (arith, c .counted)
+
+-- where the last wishes itself, one more is counted
+closing-next : {n m : ℕ} {w₀ w p : List ℕ} {count more : ℕ} → Closing n w₀ w p count (suc m) → more ≡ count + one (eqb (getD w (suc m) 0) (suc m))
+    → Closing n w₀ (set w (getD p (suc m) 0) (getD w (suc m) 0)) (set p (getD w (suc m) 0) (getD p (suc m) 0)) more m
+closing-next {n} {m} {w₀} {w} {p} {count} {more} c e =
+    let (zw, zp) = c .sizes in
+    let s = c .small in
+    let v = getD w (suc m) 0 in
+    record {
+      small = omega arith;
+      sizes = (length-set w (getD p (suc m) 0) v ∙ zw, length-set p v (getD p (suc m) 0) ∙ zp);
+      linked = unlinked m w p (omega arith) (omega arith) (c .linked);
+      counted = omega (arith, c .counted, unlinked-closed m w p (omega arith) (c .linked));
+      few = omega (arith, c .few, at-most (eqb v (suc m)));
+    }
+  where
+    at-most : (b : Bool) → one b ≤ 1
+    at-most true = omega arith
+    at-most false = omega arith
+
+-- a wish and a position are small
+points-low : (n : ℕ) (w p : List ℕ) → 1 ≤ n → Points n w p → getD w n 0 ≤ n
+points-low n w p h f = by-wish (ℕ-discrete (getD w n 0) 0)
+  where
+    by-wish : Dec (getD w n 0 ≡ 0) → getD w n 0 ≤ n
+    by-wish (yes e) = omega arith
+    by-wish (no d) = f n h (omega arith) d .0
+
+-- with a position left
+module _ {n : ℕ} {w₀ w p : List ℕ} {count m : ℕ} (h : 1 ≤ m) (c : Closing n w₀ w p count m) where
+  pub low-wish : getD w m 0 ≤ 20
+  low-wish = omega (arith, points-low m w p h (c .linked .wishes), c .small)
+
+  pub low-position : getD p m 0 ≤ 20
+  low-position = omega (arith, points-low m p w h (c .linked .positions), c .small)
+
+pub closing-step : {n : ℕ} {w₀ w p : List ℕ} {count more : ℕ} (m : ℕ) → 1 ≤ m → Closing n w₀ w p count m → more ≡ count + one (eqb (getD w m 0) m)
+    → Closing n w₀ (set w (getD p m 0) (getD w m 0)) (set p (getD w m 0) (getD p m 0)) more (m - 1)
+closing-step zero h c e = absurd (omega arith)
+closing-step (suc m) h c e = let q : suc m - 1 ≡ m = omega arith in rw q (closing-next c e)

@@ -4,7 +4,7 @@ use mathlib.Core.Logic.{_⊎_, inl, inr, ⊎-elim}
 use Prim.Native.Nat.{ℕ, zero, suc, _+_, _-_, _*_, _≤_, _<_}
 use native.Mathlib.Omega.{arith}
 use native.Mathlib.Numerals.{add-one}
-use mathlib.Core.Bool.{Bool, true, false, cond, _&&_, true≢false}
+use mathlib.Core.Bool.{Bool, true, false, not, cond, _&&_, Bool·beq, true≢false}
 use mathlib.Core.List.{List, [], reverse}
 use lib.Dec.{ltb}
 use lib.ListN.{length, getD, length-reverse}
@@ -17,8 +17,8 @@ use Rattle.perm.specs.Permutation.{at}
 use Rattle.perm.proofs.Tally.{tally-reverse, none-passes}
 use Rattle.gray.specs.declared.Block.{Block}
 use Rattle.gray.specs.declared.Block.the-variants.{Extend as E}
-use Rattle.gray.specs.Order.{Row, S}
-use Rattle.gray.specs.Blocks.{blocks, positionOf}
+use Rattle.gray.specs.Order.{Row, S, letter}
+use Rattle.gray.specs.Blocks.{blocks, blocksOf, positionOf}
 use Rattle.gray.specs.Listing.{rowAt}
 use Rattle.gray.proofs.Indexed.{block}
 use Rattle.gray.proofs.InPlace.{in-place}
@@ -28,6 +28,7 @@ use Rattle.rank.specs.Search.{readingOf, grown, cyclesOf, backwardOf, turned, s
 use Rattle.rank.proofs.Reversed.{row-size}
 use Rattle.rank.proofs.Starts.{in-range, before-none, before-suc, before-all, before-most, number-inside, number-back, block-read}
 use Rattle.rank.proofs.Around.{placed-in}
+use Rattle.rank.proofs.Parts.{differs}
 use Rattle.find.specs.declared.Part.{Part}
 use Rattle.find.specs.Meeting.{granted, meets, leastFrom}
 use Rattle.find.specs.Counting.{smaller}
@@ -59,6 +60,32 @@ none-read p backward n k f r h =
     none-passes p [] (readingOf backward n k)
     (tally-reading p backward n k ∙ omega (arith, ltb-false 0 (tally p (S n k)) f))
     r (rw (length-reading backward n k) h)
+
+-- where S(n,k) has a block, k is 1 at least
+pub some-cycles : (n k number : ℕ) → number < length (blocks n k) → 1 ≤ k
+unfolding blocks blocksOf letter
+some-cycles n zero number l = absurd (omega arith)
+some-cycles n (suc k) number l = omega arith
+
+-- the number of a block in written order, in either reading
+pub number-forward : (n k : ℕ) {backward : Bool} (number : ℕ) {j : ℕ} → backward ≡ false → j ≡ number → j ≡ numberRead n k backward number
+number-forward n k number e q = rw e q
+
+pub number-backward : (n k : ℕ) {backward : Bool} (number : ℕ) {j count : ℕ} → backward ≡ true → count ≡ length (blocks n k) → j ≡ count - 1 - number
+    → j ≡ numberRead n k backward number
+number-backward n k number e z q = rw e (omega arith)
+
+-- what stands below a block, from its number in written order
+pub part-is : (n k : ℕ) (backward : Bool) (number : ℕ) {j : ℕ} {b : Block} {odd : Bool} → number < length (blocks n k)
+    → j ≡ numberRead n k backward number
+    → b ≡ block (blocks n k) j
+    → odd ≡ backwardOf b
+    → _≡_ {A = Part} (record { position = positionOf n b; cycles = cyclesOf k b; backward = not (Bool·beq backward odd) }) (partRead n k backward number)
+part-is n k backward number {j} {b} {odd} l e f o =
+    let is : b ≡ block (blocksRead n k backward) number = f ∙ ap (block (blocks n k)) e ∙ sym (block-read n k backward number l) in
+    let reads : not (Bool·beq backward odd) ≡ turned backward (backwardOf (block (blocksRead n k backward) number)) =
+    differs backward odd ∙ ap (turned backward) (o ∙ ap backwardOf is) in
+    λ t. record { position = positionOf n (is t); cycles = cyclesOf k (is t); backward = reads t }
 
 -- the block with a number in a reading of S(n,k)
 module _ (n k : ℕ) (backward : Bool) (number : ℕ) (h : 1 ≤ n) (l : number < length (blocks n k)) where

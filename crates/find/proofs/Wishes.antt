@@ -2,9 +2,9 @@
 use mathlib.Core.Path.{_≡_, refl, sym, ap, _∙_}
 use Prim.Native.Nat.{ℕ, suc, _+_, _-_, _≤_, _<_}
 use native.Mathlib.Omega.{arith}
-use mathlib.Core.List.{List}
+use mathlib.Core.List.{List, [], _∷_, _++_}
 use lib.ListN.{length, getD, set, take, drop, length-drop}
-use lib.Seq.{length-take-le, getD-take, getD-drop, take-set-lt, take-take, drop-set-lt, drop-set-add}
+use lib.Seq.{length-take-le, getD-take, getD-drop, take-set-lt, take-take, take-suc, take-suc-set, drop-set-lt, drop-set-add}
 use Rattle.perm.specs.Permutation.{at}
 use Rattle.find.specs.Counting.{smaller}
 use Rattle.find.specs.Search.{wishesOf}
@@ -32,3 +32,18 @@ wishes-left m w x l u =
     ∙ sym (take-take m (suc m) (set (drop 1 w) (x - 1) v) (omega arith))
     ∙ ap (take m) (take-set-lt (suc m) (drop 1 w) (x - 1) v (omega arith))
     ∙ ap (λ (y : ℕ). take m (set (wishesOf (suc m) w) (x - 1) y)) (sym (wish-at (suc m) w (suc m) (omega arith) (omega arith)))
+
+-- one position more of a copy
+pub wishes-next : (w s : List ℕ) (i : ℕ) → i + 1 < length w → i < length s → wishesOf i w ≡ take i s
+    → wishesOf (i + 1) (set w (i + 1) (getD s i 0)) ≡ take (i + 1) s
+wishes-next w s i h l e =
+    let v = getD s i 0 in
+    let a : i + 1 ≡ 1 + i = omega arith in
+    let b : i + 1 ≡ suc i = omega arith in
+    ap (λ (j : ℕ). wishesOf (i + 1) (set w j v)) a
+    ∙ ap (take (i + 1)) (drop-set-add 1 w i v)
+    ∙ ap (λ (j : ℕ). take j (set (drop 1 w) i v)) b
+    ∙ take-suc-set (drop 1 w) i v (omega (arith, length-drop 1 w))
+    ∙ ap (λ (x : List ℕ). x ++ (v ∷ [])) e
+    ∙ sym (take-suc s i 0 l)
+    ∙ ap (λ (j : ℕ). take j s) (sym b)
