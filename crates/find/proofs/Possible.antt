@@ -10,14 +10,21 @@ use borrow.Table.Steps.{cases}
 use borrow.Author.Tests.{eqb-true, eqb-false, leb-true, leb-false, ltb-true, eq-eqb, ne-eqb, le-leb, lt-leb, lt-ltb, le-ltb}
 use Rattle.stirling.specs.Count.{c, cyclesTaken}
 use Rattle.stirling.proofs.Counts.{taken-none, taken-some, taken-fails, taken-counted}
-use Rattle.perm.specs.Lists.{some}
+use Rattle.perm.specs.Lists.{one, some}
+use Rattle.perm.specs.Permutation.{at}
+use Rattle.perm.specs.Array.{position}
+use Rattle.perm.proofs.Tally.{tally-not}
 use Rattle.gray.specs.Order.{S}
 use Rattle.find.specs.Meeting.{meets}
-use Rattle.find.specs.Counting.{Sound, free, closed, meeting}
+use Rattle.find.specs.declared.ByValue.{ByValue}
+use Rattle.find.specs.Counting.{Sound, smaller, free, closed}
+use Rattle.find.specs.Search.{wishesOf, AreByValue}
 use Rattle.find.proofs.Counting.{unsound-none, counted}
+use Rattle.find.proofs.Wishes.{length-wishes}
+use Rattle.find.proofs.Links.{linked-sound}
 
 -- no row meets wishes that are not sound
-pub met-unsound : (n k : ℕ) (w : List ℕ) → length w ≡ n → (Sound n w → ⊥) → some (meets w) (S n k) ≡ false
+met-unsound : (n k : ℕ) (w : List ℕ) → length w ≡ n → (Sound n w → ⊥) → some (meets w) (S n k) ≡ false
 met-unsound n k w z d = ap (ltb 0) (unsound-none n k w z d)
 
 -- some row meets sound ones just where the cycles that are left are those of some permutation of the free positions
@@ -28,22 +35,55 @@ module _ (n k : ℕ) (w : List ℕ) (s : Sound n w) where
       ∙ cases (leb (closed n w) k) (λ t. rw t (sym (taken-counted (free w) (k - closed n w)))) (λ f. rw f)
 
   -- the cycles left are taken
-  pub met-some : closed n w ≤ k → cyclesTaken (free w) (k - closed n w) ≡ true → some (meets w) (S n k) ≡ true
+  met-some : closed n w ≤ k → cyclesTaken (free w) (k - closed n w) ≡ true → some (meets w) (S n k) ≡ true
   met-some h t = some-counted ∙ rw (le-leb (closed n w) k h, t)
 
-  pub met-none : (closed n w ≤ k → cyclesTaken (free w) (k - closed n w) ≡ false) → some (meets w) (S n k) ≡ false
+  met-none : (closed n w ≤ k → cyclesTaken (free w) (k - closed n w) ≡ false) → some (meets w) (S n k) ≡ false
   met-none h = some-counted ∙ cases (leb (closed n w) k) (λ t. rw t (h (leb-true (closed n w) k t))) (λ f. rw f)
 
   -- where no position is free, the wishes close all cycles
-  pub met-full : free w ≡ 0 → some (meets w) (S n k) ≡ eqb k (closed n w)
+  met-full : free w ≡ 0 → some (meets w) (S n k) ≡ eqb k (closed n w)
   met-full e =
       cases (eqb k (closed n w))
       (λ t. let q = eqb-true k (closed n w) t in met-some (omega arith) (taken-none (free w) (k - closed n w) e (omega arith)) ∙ sym t)
       (λ f. met-none (λ h. taken-fails (free w) (k - closed n w) (λ _ z. eqb-false k (closed n w) f (omega arith)) (λ l u. omega arith)) ∙ sym f)
 
   -- and elsewhere from one to as many cycles as there are free positions are left
-  pub met-open : (free w ≡ 0 → ⊥) → closed n w < k → k ≤ closed n w + free w → some (meets w) (S n k) ≡ true
+  met-open : (free w ≡ 0 → ⊥) → closed n w < k → k ≤ closed n w + free w → some (meets w) (S n k) ≡ true
   met-open d l u = met-some (omega arith) (taken-some (free w) (k - closed n w) (omega arith) (omega arith))
 
-  pub met-fails : (free w ≡ 0 → ⊥) → (closed n w < k → k ≤ closed n w + free w → ⊥) → some (meets w) (S n k) ≡ false
+  met-fails : (free w ≡ 0 → ⊥) → (closed n w < k → k ≤ closed n w + free w → ⊥) → some (meets w) (S n k) ≡ false
   met-fails d o = met-none (λ h. taken-fails (free w) (k - closed n w) (λ z _. d z) (λ l u. o (omega arith) (omega arith)))
+
+-- the cycles that wishes close, and the positions that are free, are not more than all
+few-closed : (n : ℕ) (w : List ℕ) → closed n w ≤ n
+unfolding closed
+few-closed zero w = omega arith
+few-closed (suc m) w = omega (arith, few-closed m (smaller m (position (suc m) w) w), at-most (eqb (at w (suc m)) (suc m)))
+  where
+    at-most : (b : Bool) → one b ≤ 1
+    at-most true = omega arith
+    at-most false = omega arith
+
+-- from the wishes by their values
+module _ {n : ℕ} (k : ℕ) {w : List ℕ} {r : ByValue} (h : n < length w) (b : AreByValue n w r) where
+  pub none-sound : r .sound ≡ false → false ≡ some (meets (wishesOf n w)) (S n k)
+  none-sound f = sym (met-unsound n k (wishesOf n w) (length-wishes n w h) (b .unsound f))
+
+  module _ (t : r .sound ≡ true) {q : ℕ} (e : q ≡ closed n (wishesOf n w)) where
+    sound : Sound n (wishesOf n w)
+    sound = linked-sound w (r .positions) h (b .linked t)
+
+    pub few : q + r .free ≤ n + n
+    few = omega (arith, e, few-closed n (wishesOf n w), b .counted, tally-not (eqb 0) (wishesOf n w), length-wishes n w h)
+
+    pub all-closed : r .free ≡ 0 → eqb k q ≡ some (meets (wishesOf n w)) (S n k)
+    all-closed z = ap (eqb k) e ∙ sym (met-full n k (wishesOf n w) sound (sym (b .counted) ∙ z))
+
+    pub some-free : (r .free ≡ 0 → ⊥) → (x : Bool) → (x ≡ true → (q < k) × (k ≤ q + r .free)) → (x ≡ false → q < k → k ≤ q + r .free → ⊥)
+        → x ≡ some (meets (wishesOf n w)) (S n k)
+    some-free d true f g =
+        let (l, u) = f refl in
+        sym (met-open n k (wishesOf n w) sound (λ z. d (b .counted ∙ z)) (omega (arith, e)) (omega (arith, e, b .counted)))
+    some-free d false f g =
+        sym (met-fails n k (wishesOf n w) sound (λ z. d (b .counted ∙ z)) (λ l u. g refl (omega (arith, e)) (omega (arith, e, b .counted))))

@@ -30,9 +30,10 @@ use Rattle.rank.proofs.Starts.{in-range, before-none, before-suc, before-all, b
 use Rattle.rank.proofs.Around.{placed-in}
 use Rattle.rank.proofs.Parts.{differs}
 use Rattle.find.specs.declared.Part.{Part}
+use Rattle.find.specs.declared.Search.{Search}
 use Rattle.find.specs.Meeting.{granted, meets, leastFrom}
 use Rattle.find.specs.Counting.{smaller}
-use Rattle.find.specs.Search.{wishesOf, partRead, enters}
+use Rattle.find.specs.Search.{wishesOf, partRead, enters, Searchable, Searched}
 use Rattle.find.proofs.Shorter.{meets-grown}
 use Rattle.find.proofs.Least.{First, least-first, first-least, first-none}
 use Rattle.find.proofs.Wishes.{length-wishes, wish-at}
@@ -162,21 +163,30 @@ ends {n} {k} {backward} {start} {w} {number} {first} h s g l =
     let z = length-reading backward n k in
     record { from = omega arith; most = omega arith; none = g .none; passes = λ u. absurd (omega arith) }
 
--- at a block, with the part that it makes and the place where it ends
+-- at a block, with the part that it makes
 module _ {n k : ℕ} {backward : Bool} {start : ℕ} {w : List ℕ} {number first calls : ℕ} (h : 1 ≤ n) (z : n < length w)
-    (g : Going n k backward start w number first calls) (l : number < length (blocks n k)) where
-  abbrev here : Part
-  here = partRead n k backward number
-
+    (g : Going n k backward start w number first calls) (l : number < length (blocks n k)) {here : Part} (e : here ≡ partRead n k backward number) where
   abbrev size : ℕ
   size = c (n - 1) (here .cycles)
 
+  pub position-here : (1 ≤ here .position) × (here .position ≤ n)
+  position-here = subst (λ (q : Part). (1 ≤ q .position) × (q .position ≤ n)) (sym e) (part-position n k backward number h l)
+
+  -- the next one starts where it ends
   pub ends-at : first + size ≡ before n k backward (suc number)
-  ends-at = omega (arith, g .stands, part-next n k backward number h l)
+  ends-at =
+      ap (λ (a : ℕ). a + size) (g .stands)
+      ∙ ap (λ (q : Part). before n k backward number + c (n - 1) (q .cycles)) e
+      ∙ part-next n k backward number h l
 
   meets-in : (r : ℕ) → r < size → meets (wishesOf n w) (rowAt (readingOf backward n k) (first + r))
       ≡ (granted (getD w (here .position) 0) n && meets (smaller (n - 1) (here .position) (wishesOf n w)) (rowAt (readingOf (here .backward) (n - 1) (here .cycles)) r))
-  meets-in r u = rw (g .stands) (part-meets n k backward number w h z l r u)
+  meets-in r u =
+      ap (λ (a : ℕ). meets (wishesOf n w) (rowAt (readingOf backward n k) (a + r))) (g .stands)
+      ∙ subst
+      (λ (q : Part). r < c (n - 1) (q .cycles) → meets (wishesOf n w) (rowAt (readingOf backward n k) (before n k backward number + r))
+      ≡ (granted (getD w (q .position) 0) n && meets (smaller (n - 1) (q .position) (wishesOf n w)) (rowAt (readingOf (q .backward) (n - 1) (q .cycles)) r)))
+      (sym e) (part-meets n k backward number w h z l r) u
 
   -- going on, where none of the block's rows from the start on meets the wishes
   on : (calls' : ℕ) → ((r : ℕ) → r < size → start ≤ first + r → meets (wishesOf n w) (rowAt (readingOf backward n k) (first + r)) ≡ false)
@@ -228,6 +238,12 @@ module _ {n k : ℕ} {backward : Bool} {start : ℕ} {w : List ℕ} {number firs
     length-below : length below ≡ size
     length-below = length-reading (here .backward) (n - 1) (here .cycles)
 
+    -- so the list below has rows
+    pub starts-below : start < first + size → start - first < size
+    starts-below s =
+        let any = first-below p (here .backward) (n - 1) (here .cycles) some-below (least-first p below 0 (omega arith)) in
+        omega arith
+
     module _ {r : ℕ} (f : First p below (start - first) r) (s : start < first + size) where
       -- the first row that meets the wishes is in it
       pub found : r < size → First (meets (wishesOf n w)) (readingOf backward n k) start (first + r)
@@ -265,3 +281,66 @@ module _ {n k : ℕ} {backward : Bool} {start : ℕ} {w : List ℕ} {number firs
           (λ i li si. alike i li ∙ f .none i (omega arith) (omega arith))
           (omega (arith, only-call u))
           (inr (omega (arith, in-middle u), s))
+
+-- the search of a list without values, of which some row meets the wishes
+few-rows : (k : ℕ) → c 0 k ≤ 1
+unfolding c
+few-rows zero = omega arith
+few-rows (suc k) = omega arith
+
+pub searched-nothing : {n k : ℕ} {backward : Bool} {start : ℕ} {w : List ℕ} → n ≡ 0 → Searchable n k start w
+    → Searched n k backward start w (record { place = 0; calls = 1 })
+searched-nothing {n} {k} {backward} {start} {w} e s =
+    let p = meets (wishesOf n w) in
+    let low : c n k ≤ 1 = rw e (few-rows k) in
+    let first : start ≡ 0 = omega (arith, s .below) in
+    let r = first-below p backward n k (s .met) (least-first p (readingOf backward n k) 0 (omega arith)) in
+    record {
+      place = rw first (omega arith);
+      few = omega arith;
+      straight = λ _. omega arith;
+      missed = λ _. omega arith;
+    }
+
+-- what the search of a list below says of its rows
+pub first-of : {n k : ℕ} {backward : Bool} {start : ℕ} {w u : List ℕ} {r : Search} → wishesOf n w ≡ u → start ≤ c n k
+    → Searched n k backward start w r → First (meets u) (readingOf backward n k) start (r .place)
+first-of {n} {k} {backward} {start} {w} {u} {r} e h s =
+    subst (λ (a : ℕ). First (meets u) (readingOf backward n k) start a)
+    (ap (λ (v : List ℕ). leastFrom (meets v) (readingOf backward n k) start) (sym e) ∙ sym (s .place))
+    (least-first (meets u) (readingOf backward n k) start (rw (length-reading backward n k) h))
+
+-- the search ends with what it found in a block, by as many lists as were gone through before and below
+pub searched-found : {n k : ℕ} {backward : Bool} {start : ℕ} {w : List ℕ} {number first calls r inner size : ℕ} → 1 ≤ n
+    → Going n k backward start w number first calls
+    → First (meets (wishesOf n w)) (readingOf backward n k) start (first + r)
+    → r < size
+    → first + size ≤ c n k
+    → inner ≤ 2 * (n - 1) + 1
+    → (start - first ≡ 0 → inner ≤ n - 1 + 1)
+    → Searched n k backward start w (record { place = first + r; calls = calls + inner })
+searched-found {n} {k} {backward} {start} {w} {number} {first} {calls} {r} {inner} h g f u m few straight = record {
+  place = first-least (meets (wishesOf n w)) (readingOf backward n k) start f;
+  few = ⊎-elim
+      (λ (e : calls ≡ 1). omega arith)
+      (λ (b : (1 ≤ start) × (start < first)). omega (arith, g .few, straight (omega arith)))
+      (g .once);
+  straight = λ z. ⊎-elim
+      (λ (e : calls ≡ 1). omega (arith, straight (omega arith)))
+      (λ (b : (1 ≤ start) × (start < first)). absurd (omega arith))
+      (g .once);
+  missed = λ z. absurd (omega arith);
+}
+
+-- or with none
+pub searched-none : {n k : ℕ} {backward : Bool} {start : ℕ} {w : List ℕ} {number first calls : ℕ} → 1 ≤ n
+    → Searchable n k start w
+    → Going n k backward start w number first calls
+    → length (blocks n k) ≤ number
+    → Searched n k backward start w (record { place = first; calls = calls })
+searched-none {n} {k} {backward} {start} {w} h s g l = record {
+  place = first-least (meets (wishesOf n w)) (readingOf backward n k) start (ends h (s .below) g l);
+  few = omega (arith, g .few);
+  straight = λ _. g .few;
+  missed = λ _. g .few;
+}

@@ -1,6 +1,6 @@
 -- Wishes in a list that has the wish of position i at index i. Assumes nothing.
 use mathlib.Core.Path.{_≡_, refl, sym, ap, _∙_}
-use Prim.Native.Nat.{ℕ, suc, _+_, _-_, _≤_, _<_}
+use Prim.Native.Nat.{ℕ, zero, suc, _+_, _-_, _≤_, _<_}
 use native.Mathlib.Omega.{arith}
 use mathlib.Core.List.{List, [], _∷_, _++_}
 use lib.ListN.{length, getD, set, take, drop, length-drop}
@@ -32,6 +32,12 @@ wishes-left m w x l u =
     ∙ sym (take-take m (suc m) (set (drop 1 w) (x - 1) v) (omega arith))
     ∙ ap (take m) (take-set-lt (suc m) (drop 1 w) (x - 1) v (omega arith))
     ∙ ap (λ (y : ℕ). take m (set (wishesOf (suc m) w) (x - 1) y)) (sym (wish-at (suc m) w (suc m) (omega arith) (omega arith)))
+
+pub wishes-below : (n : ℕ) (w : List ℕ) (x : ℕ) → 1 ≤ x → x ≤ n → wishesOf (n - 1) (set w x (getD w n 0)) ≡ smaller (n - 1) x (wishesOf n w)
+wishes-below zero w x l u = absurd (omega arith)
+wishes-below (suc m) w x l u =
+    let e : suc m - 1 ≡ m = omega arith in
+    ap (λ (j : ℕ). wishesOf j (set w x (getD w (suc m) 0))) e ∙ wishes-left m w x l u ∙ ap (λ (j : ℕ). smaller j x (wishesOf (suc m) w)) (sym e)
 
 -- one position more of a copy
 pub wishes-next : (w s : List ℕ) (i : ℕ) → i + 1 < length w → i < length s → wishesOf i w ≡ take i s

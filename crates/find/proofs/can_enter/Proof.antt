@@ -1,38 +1,47 @@
+-- `find::can_enter` meets its contract: the wish at the block's position, and then the wishes that are left. Assumes nothing.
+use Prim.Native.Nat.{ℕ, _-_}
+use mathlib.Core.Path.{_≡_, ap, _∙_}
+use mathlib.Core.Logic.{⊎-elim}
+use mathlib.Core.List.{List}
+use lib.ListN.{getD}
+use borrow.Author.Tests.{eqb-true, eqb-false, not-true, not-false}
+use Rattle.perm.specs.Lists.{some}
+use Rattle.gray.specs.Order.{S}
+use Rattle.find.specs.Meeting.{meets}
+use Rattle.find.specs.Search.{wishesOf}
+use Rattle.find.proofs.Meeting.{granted-free, granted-same, granted-false}
+use Rattle.find.proofs.Wishes.{wishes-below}
 use borrow.Author.Needs.{needs}
 use Rattle.find.proofs.can_enter.Statement.{statement}
 use Rattle.find.proofs.can_enter.Tie as tie
-use Rattle.find.proofs.can_enter.Reads as reads
-use Rattle.find.proofs.can_enter.Lts as lts
-use Rattle.find.proofs.can_meet.Reads as can-meet-reads
-use Rattle.find.proofs.smaller.Reads as smaller-reads
 
--- src/lib.rt:174:16
 array-read-wish : tie.Need-array-read-wish
 array-read-wish c = search needs
 
--- src/lib.rt:175:21
 cast-if2 : tie.Need-cast-if2
 cast-if2 c = search needs
 
--- src/lib.rt:176:9
 returns : tie.Need-returns
-returns c = ?
+returns c = rw (granted-false _ _ (c .before .if1 .taken) (eqb-false _ _ (not-true _ (c .if2 .taken))))
 
--- src/lib.rt:178:14
 sub-can-meet : tie.Need-sub-can-meet
 sub-can-meet c = search needs
 
--- src/lib.rt:178:34
 smaller-requires : tie.Need-smaller-requires
 smaller-requires c κs = search needs
 
--- src/lib.rt:178:5
 can-meet-requires : tie.Need-can-meet-requires
 can-meet-requires c κs = search needs
 
--- src/lib.rt:170:1
 returns-2 : tie.Need-returns-2
-returns-2 c = ?
+returns-2 c =
+    let j = c .before .before in
+    let a = j .before .args in
+    let pre = j .before .pre in
+    let left = ap (wishesOf (a .n - 1)) (c .before .smaller .ensures) ∙ wishes-below (a .n) (a .t3) (a .part .position) (pre .2) (pre .3) in
+    let below = c .can-meet .ensures ∙ ap (λ (w : List ℕ). some (meets w) (S (a .n - 1) (a .part .cycles))) left in
+    let here = ⊎-elim (λ w. granted-same (getD (a .t3) (a .part .position) 0) (a .n) (eqb-true _ _ (not-false _ (w .1 .left)))) (λ w. granted-free _ (a .n) (w .left)) (j .if1 .came) in
+    rw here below
 
 pub can-enter-spec : {M : Type 1} → statement M
 can-enter-spec =

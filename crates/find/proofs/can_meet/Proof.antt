@@ -1,38 +1,57 @@
+-- `find::can_meet` meets its contract, by the count. Assumes nothing.
+use Prim.Native.Nat.{_+_}
+use native.Mathlib.Omega.{arith}
+use mathlib.Core.Path.{_≡_}
+use mathlib.Core.Bool.{true}
+use borrow.Author.Tests.{leb-true, leb-false, ltb-true, not-true, not-false}
+use Rattle.find.proofs.Possible.{none-sound, few, all-closed, some-free}
 use borrow.Author.Needs.{needs}
 use Rattle.find.proofs.can_meet.Statement.{statement}
 use Rattle.find.proofs.can_meet.Tie as tie
-use Rattle.find.proofs.can_meet.Reads as reads
-use Rattle.find.proofs.can_meet.Lts as lts
-use Rattle.find.proofs.by_value.Reads as by-value-reads
-use Rattle.find.proofs.closed.Reads as closed-reads
 
--- src/lib.rt:133:9
 by-value-requires : tie.Need-by-value-requires
 by-value-requires c κs = search needs
 
--- src/lib.rt:135:9
 returns : tie.Need-returns
-returns c = ?
+returns c = let b = c .before .before in none-sound (b .before .args .k) (omega arith) (b .by-value .ensures) (not-true _ (c .if1 .taken))
 
--- src/lib.rt:138:9
 closed-requires : tie.Need-closed-requires
-closed-requires c κs = ?
+closed-requires c κs = let b = c .before .before .before in (b .before .pre, b .by-value .ensures .linked (not-false _ (c .before .if1 .left)))
 
--- src/lib.rt:140:9
+-- what the wishes are at the comparison of the cycles that they close
+abbrev at-closed : tie.After-closed → tie.After-by-value
+at-closed c = c .before .before .before .before
+
+sound : (c : tie.After-closed) → at-closed c .by-value .result .sound ≡ true
+sound c = not-false _ (c .before .before .if1 .left)
+
 returns-2 : tie.Need-returns-2
-returns-2 c = ?
+returns-2 c =
+    let q = c .before .before in
+    let b = at-closed q in
+    all-closed (b .before .args .k) (omega arith) (b .by-value .ensures) (sound q) (q .closed .ensures) (c .if2 .taken)
 
--- src/lib.rt:142:24
 add-result : tie.Need-add-result
-add-result c = ?
+add-result c =
+    let q = c .before .before .before .before in
+    let b = at-closed q in
+    omega (arith, few (b .before .args .k) (omega arith) (b .by-value .ensures) (sound q) (q .closed .ensures), b .before .pre)
 
--- src/lib.rt:129:1
 returns-3 : tie.Need-returns-3
-returns-3 c = ?
+returns-3 c =
+    let q = c .before .before .before .before in
+    let b = at-closed q in
+    some-free (b .before .args .k) (omega arith) (b .by-value .ensures) (sound q) (q .closed .ensures) (c .before .before .if2 .left) _
+    (λ t. (c .before .if3 .taken, leb-true (b .before .args .k) (q .closed .result + b .by-value .result .free) t))
+    (λ f l u. omega (arith, leb-false (b .before .args .k) (q .closed .result + b .by-value .result .free) f))
 
--- src/lib.rt:129:1
 returns-4 : tie.Need-returns-4
-returns-4 c = ?
+returns-4 c =
+    let q = c .before .before .before in
+    let b = at-closed q in
+    some-free (b .before .args .k) (omega arith) (b .by-value .ensures) (sound q) (q .closed .ensures) (c .before .if2 .left) _
+    (λ t. absurd (omega (arith, ltb-true (q .closed .result) (b .before .args .k) t, c .if3 .left)))
+    (λ f l u. omega (arith, c .if3 .left))
 
 pub can-meet-spec : {M : Type 1} → statement M
 can-meet-spec =
