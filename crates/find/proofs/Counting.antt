@@ -58,9 +58,9 @@ left-recurrence : (m q k : ℕ) → m * left m q (suc k) + left m q k ≡ left (
 left-recurrence m q k =
     cases (leb q k)
     (λ t.
-        let h = leb-true q k t in
-        let e : suc k - q ≡ suc (k - q) = omega arith in
-        rw (t, le-leb q (suc k) (omega arith), e) (sym (recurrence m (k - q))))
+    let h = leb-true q k t in
+    let e : suc k - q ≡ suc (k - q) = omega arith in
+    rw (t, le-leb q (suc k) (omega arith), e) (sym (recurrence m (k - q))))
     (λ f. rw f (past (leb-false q k f) (leb q (suc k)) refl))
   where
     past : k < q → (b : Bool) → leb q (suc k) ≡ b → m * cond b (c m (suc k - q)) 0 + 0 ≡ cond b (c (suc m) (suc k - q)) 0
@@ -112,9 +112,9 @@ module _ {m : ℕ} (w : List ℕ) (size : length w ≡ suc m) where
   inserted k i l u =
       tally-agree (λ γ. meets w (insert (suc m) i γ)) (λ γ. granted (at w i) (suc m) && meets (smaller m i w) γ) (S m k)
       (λ r h.
-          let z = row-length k r h in
-          ap (meets w) (grown-insert (suc m) (rowAt (S m k) r) (omega arith) (omega arith) i l (omega arith))
-          ∙ meets-grown w size i l (omega arith) (rowAt (S m k) r) z)
+      let z = row-length k r h in
+      ap (meets w) (grown-insert (suc m) (rowAt (S m k) r) (omega arith) (omega arith) i l (omega arith))
+      ∙ meets-grown w size i l (omega arith) (rowAt (S m k) r) z)
       ∙ tally-and (granted (at w i) (suc m)) (meets (smaller m i w)) (S m k)
 
   extended : (k : ℕ)
@@ -122,9 +122,9 @@ module _ {m : ℕ} (w : List ℕ) (size : length w ≡ suc m) where
   extended k =
       tally-agree (λ γ. meets w (extend (suc m) γ)) (λ γ. granted (at w (suc m)) (suc m) && meets (smaller m (suc m) w) γ) (S m k)
       (λ r h.
-          let z = row-length k r h in
-          ap (meets w) (grown-extend (suc m) (rowAt (S m k) r) (omega arith) (omega arith))
-          ∙ meets-grown w size (suc m) (omega arith) (omega arith) (rowAt (S m k) r) z)
+      let z = row-length k r h in
+      ap (meets w) (grown-extend (suc m) (rowAt (S m k) r) (omega arith) (omega arith))
+      ∙ meets-grown w size (suc m) (omega arith) (omega arith) (rowAt (S m k) r) z)
       ∙ tally-and (granted (at w (suc m)) (suc m)) (meets (smaller m (suc m) w)) (S m k)
 
   -- where a position but x wishes m + 1, no row with m + 1 at x meets the wishes
@@ -317,7 +317,7 @@ module _ (m : ℕ) (shorter : (k : ℕ) (w : List ℕ) → Sound m w → tally (
               let free-there : at w y ≡ 0 = no-wish y l h ey (rw (u-at y l h) at (each y l (rw (u-sound .size) h))) (ℕ-discrete (at w y) 0) in
               both-true _ _ (granted-free (at w y) n free-there)
               (meets-holds (smaller m y w) γ (λ i li hi.
-                  by-position y l h ey each i li (rw (length-smaller w (s .size) y l (omega arith)) at hi) (ℕ-discrete i y)))
+              by-position y l h ey each i li (rw (length-smaller w (s .size) y l (omega arith)) at hi) (ℕ-discrete i y)))
             where
               no-wish : (y : ℕ) → 1 ≤ y → y ≤ m → at γ y ≡ at w n → granted (at w y) (at γ y) ≡ true → Dec (at w y ≡ 0) → at w y ≡ 0
               no-wish y l h ey g (yes f) = f

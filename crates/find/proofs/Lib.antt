@@ -8,3 +8,4 @@ pub mod Links
 pub mod Noting
 pub mod Possible
 pub mod Searching
+pub mod Answered

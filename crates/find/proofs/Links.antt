@@ -47,18 +47,18 @@ module _ (m : ℕ) (w p : List ℕ) (hw : suc m < length w) (hp : suc m < length
       by-position (yes e) =
           let here : getD (set w x v) i 0 ≡ v = ap (λ (j : ℕ). getD (set w x v) j 0) e ∙ getD-set-same w x v 0 (omega arith) in
           rw here (λ d.
-              let (low, back) = f (suc m) (omega arith) (omega arith) d in
-              let top : v ≡ suc m → ⊥ = λ q. omega (arith, ap (λ (j : ℕ). getD p j 0) q) in
-              (omega arith, getD-set-same p v x 0 (omega arith) ∙ sym e))
+          let (low, back) = f (suc m) (omega arith) (omega arith) d in
+          let top : v ≡ suc m → ⊥ = λ q. omega (arith, ap (λ (j : ℕ). getD p j 0) q) in
+          (omega arith, getD-set-same p v x 0 (omega arith) ∙ sym e))
       by-position (no e) =
           let here : getD (set w x v) i 0 ≡ getD w i 0 = getD-set-other w x i v 0 e in
           rw here (λ d.
-              let (low, back) = f i l (omega arith) d in
-              let top : getD w i 0 ≡ suc m → ⊥ = λ q. e (sym back ∙ ap (λ (j : ℕ). getD p j 0) q) in
-              let other : getD w i 0 ≡ v → ⊥ = λ q.
-              let z = f (suc m) (omega arith) (omega arith) (λ o. d (q ∙ o)) .1 in
-              omega (arith, ap (λ (j : ℕ). getD p j 0) q) in
-              (omega arith, getD-set-other p v (getD w i 0) x 0 other ∙ back))
+          let (low, back) = f i l (omega arith) d in
+          let top : getD w i 0 ≡ suc m → ⊥ = λ q. e (sym back ∙ ap (λ (j : ℕ). getD p j 0) q) in
+          let other : getD w i 0 ≡ v → ⊥ = λ q.
+          let z = f (suc m) (omega arith) (omega arith) (λ o. d (q ∙ o)) .1 in
+          omega (arith, ap (λ (j : ℕ). getD p j 0) q) in
+          (omega arith, getD-set-other p v (getD w i 0) x 0 other ∙ back))
 
 -- both sides alike
 pub unlinked : (m : ℕ) (w p : List ℕ) → suc m < length w → suc m < length p → Linked (suc m) w p

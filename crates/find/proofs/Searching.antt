@@ -199,8 +199,8 @@ module _ {n k : ℕ} {backward : Bool} {start : ℕ} {w : List ℕ} {number firs
     none = λ i li ui. cases (ltb i first)
         (λ t. g .none i li (ltb-true i first t))
         (λ f.
-            let e : first + (i - first) ≡ i = omega (arith, ltb-false i first f) in
-            subst (λ (j : ℕ). meets (wishesOf n w) (rowAt (readingOf backward n k) j) ≡ false) e (missed (i - first) (omega (arith, ltb-false i first f)) (omega arith)));
+        let e : first + (i - first) ≡ i = omega (arith, ltb-false i first f) in
+        subst (λ (j : ℕ). meets (wishesOf n w) (rowAt (readingOf backward n k) j) ≡ false) e (missed (i - first) (omega (arith, ltb-false i first f)) (omega arith)));
     few = few;
     once = once;
   }
@@ -256,9 +256,9 @@ module _ {n k : ℕ} {backward : Bool} {start : ℕ} {w : List ℕ} {number firs
             none = λ i li ui. cases (ltb i first)
                 (λ q. g .none i li (ltb-true i first q))
                 (λ q.
-                    let e : first + (i - first) ≡ i = omega (arith, ltb-false i first q) in
-                    subst (λ (j : ℕ). meets (wishesOf n w) (rowAt (readingOf backward n k) j) ≡ false) e
-                    (alike (i - first) (omega arith) ∙ f .none (i - first) (omega arith) (omega (arith, ltb-false i first q))));
+                let e : first + (i - first) ≡ i = omega (arith, ltb-false i first q) in
+                subst (λ (j : ℕ). meets (wishesOf n w) (rowAt (readingOf backward n k) j) ≡ false) e
+                (alike (i - first) (omega arith) ∙ f .none (i - first) (omega arith) (omega (arith, ltb-false i first q))));
             passes = λ _. alike r u ∙ f .passes (rw length-below u);
           }
 
@@ -268,8 +268,8 @@ module _ {n k : ℕ} {backward : Bool} {start : ℕ} {w : List ℕ} {number firs
           cases (ltb first start)
           (λ q. ltb-true first start q)
           (λ q.
-              let o : start - first ≡ 0 = omega (arith, ltb-false first start q) in
-              absurd (omega (arith, first-below p (here .backward) (n - 1) (here .cycles) some-below (subst (λ (a : ℕ). First p below a r) o f))))
+          let o : start - first ≡ 0 = omega (arith, ltb-false first start q) in
+          absurd (omega (arith, first-below p (here .backward) (n - 1) (here .cycles) some-below (subst (λ (a : ℕ). First p below a r) o f))))
 
       only-call : size ≤ r → calls ≡ 1
       only-call u = ⊎-elim (λ e. e) (λ (b : (1 ≤ start) × (start < first)). absurd (omega (arith, in-middle u))) (g .once)

@@ -20,13 +20,17 @@ checkLengths n wishes size = refuse (not (eqb wishes n) || not (eqb size n)) 5
 abbrev pub checkWishes : ℕ → List ℕ → ℕ
 checkWishes n w = refuse (some (ltb n) w) 6
 
+-- the checks of what is asked, before anything is looked for: 1, 2, 3, 5, 6
+abbrev pub checkAsked : ℕ → ℕ → ℕ → List ℕ → ℕ → ℕ
+checkAsked n k place w size = checkPlace n k place then checkLengths n (length w) size then checkWishes n w
+
 -- check 14: no row from the place to the end meets the wishes
 abbrev pub checkMet : ℕ → ℕ → ℕ → List ℕ → ℕ
 checkMet n k place w = refuse (not (some (meets w) (drop place (S n k)))) 14
 
--- the checks in document 02's order: 1, 2, 3, 5, 6, and last of all 14
+-- all checks, in document 02's order: 1, 2, 3, 5, 6, and last of all 14
 abbrev pub checkFind : ℕ → ℕ → ℕ → List ℕ → ℕ → ℕ
-checkFind n k place w size = checkPlace n k place then checkLengths n (length w) size then checkWishes n w then checkMet n k place w
+checkFind n k place w size = checkAsked n k place w size then checkMet n k place w
 
 -- what the call gives: the refusal, and the first place at or after `place` whose row meets the wishes, 0 on a refusal
 abbrev pub findOf : ℕ → ℕ → ℕ → List ℕ → ℕ → Found

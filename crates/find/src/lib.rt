@@ -6,12 +6,12 @@ ghost use mathlib.Core.Path.{_≡_};
 ghost use Prim.Native.Nat.{_-_, _≤_, _<_};
 ghost use mathlib.Core.Bool.{true};
 ghost use lib.ListN.{length, getD, set};
-ghost use Rattle.stirling.specs.Count.{IsTable};
+ghost use Rattle.stirling.specs.Count.{c, IsTable};
 ghost use Rattle.perm.specs.Lists.{some};
 ghost use Rattle.gray.specs.Order.{S};
 ghost use Rattle.gray.specs.Blocks.{blocks};
-ghost use Rattle.find.specs.Meeting.{meets};
-ghost use Rattle.find.specs.Find.{checkWishes, findOf, writtenBy};
+ghost use Rattle.find.specs.Meeting.{meets, leastFrom};
+ghost use Rattle.find.specs.Find.{checkWishes, checkAsked, findOf, writtenBy};
 ghost use Rattle.find.specs.Counting.{closed};
 ghost use Rattle.find.specs.Search.{wishesOf, Linked, noted, AreByValue, partRead, enters, Searchable, Searched};
 
@@ -205,7 +205,14 @@ fn first(counts: &[u64], n: u64, k: u64, backward: bool, start: u64, w: [u8; 21]
         let part = part_at(n, k, backward, number);
         let next = before + stirling::entry(counts, n - 1, part.cycles);
         if start < next && can_enter(n, part, w) {
-            let below = first(counts, n - 1, part.cycles, part.backward, rest(start, before), smaller(w, part.position, n));
+            let below = first(
+                counts,
+                n - 1,
+                part.cycles,
+                part.backward,
+                rest(start, before),
+                smaller(w, part.position, n),
+            );
             calls += below.calls;
             if below.place < next - before {
                 return Search {
@@ -244,6 +251,24 @@ fn check_wishes(n: u64, wishes: &[u8]) -> u8
     0
 }
 
+// Checks 1, 2 and 3, then check 5 for the wishes and for a slice of `size` bytes, then check 6.
+fn check_asked(counts: &[u64], n: u64, k: u64, place: u64, wishes: &[u8], size: usize) -> u8
+    requires { ⌜ IsTable (now counts) ⌝ }
+    ensures { λ r. ⌜ r ≡ checkAsked n k place (now (wishes .entry)) size ⌝ }
+{
+    let place_refusal = stirling::check_place_in(counts, n, k, place);
+    if place_refusal != 0 {
+        return place_refusal;
+    }
+    if wishes.len() as u64 != n {
+        return REFUSED_LENT;
+    }
+    if size as u64 != n {
+        return REFUSED_LENT;
+    }
+    check_wishes(n, wishes)
+}
+
 // The wishes by position.
 fn by_position(wishes: &[u8]) -> [u8; 21]
     requires { ⌜ length (now wishes) ≤ 20 ⌝ }
@@ -258,34 +283,36 @@ fn by_position(wishes: &[u8]) -> [u8; 21]
     w
 }
 
-// The call.
+// The first place of S(n,k) from a place on whose row meets the wishes, and the number of rows where none does.
+fn least_place(counts: &[u64], n: u64, k: u64, place: u64, wishes: &[u8]) -> u64
+    requires { ⌜ IsTable (now counts) ⌝ }
+    requires { ⌜ (n ≤ 20) × (place < c n k) × (length (now wishes) ≡ n) ⌝ }
+    ensures { λ r. ⌜ r ≡ leastFrom (meets (now (wishes .entry))) (S n k) place ⌝ }
+{
+    let w = by_position(wishes);
+    if !can_meet(n, k, w) {
+        return stirling::entry(counts, n, k);
+    }
+    first(counts, n, k, false, place, w).place
+}
+
+// The first row of S(n,k) at or after a place that meets the wishes: its place, and the row itself in `out`. Refusals 1, 2, 3, 5, 6, 14; a refused call writes nothing.
 pub fn find(n: u64, k: u64, place: u64, wishes: &[u8], out: &mut [u8]) -> Found
     ensures answer { λ r. ⌜ r ≡ findOf n k place (now (wishes .entry)) (length (now (out .entry))) ⌝ }
     ensures row { λ r. ⌜ now (out .exit) ≡ writtenBy n k r (now (out .entry)) ⌝ }
 {
     let counts = stirling::table();
-    let refusal = stirling::check_place_in(&counts, n, k, place);
+    let refusal = check_asked(&counts, n, k, place, wishes, out.len());
     if refusal != 0 {
         return refused(refusal);
     }
-    if wishes.len() as u64 != n || out.len() as u64 != n {
-        return refused(REFUSED_LENT);
-    }
-    let wish_refusal = check_wishes(n, wishes);
-    if wish_refusal != 0 {
-        return refused(wish_refusal);
-    }
-    let w = by_position(wishes);
-    if !can_meet(n, k, w) {
+    let found = least_place(&counts, n, k, place, wishes);
+    if found == stirling::entry(&counts, n, k) {
         return refused(REFUSED_UNMET);
     }
-    let search = first(&counts, n, k, false, place, w);
-    if search.place == stirling::entry(&counts, n, k) {
-        return refused(REFUSED_UNMET);
-    }
-    rank::unrank(n, k, search.place, out);
+    rank::unrank(n, k, found, out);
     Found {
         refusal: 0,
-        place: search.place,
+        place: found,
     }
 }

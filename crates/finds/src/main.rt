@@ -53,7 +53,11 @@ fn print_all(text: &[u8]) {
             return;
         }
         let end = from + n;
-        print_line(text[at + 1] as u64, place_of(&text[at + 2..from]), &text[from..end]);
+        print_line(
+            text[at + 1] as u64,
+            place_of(&text[at + 2..from]),
+            &text[from..end],
+        );
         at = end;
     }
 }

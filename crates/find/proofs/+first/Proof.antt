@@ -258,12 +258,17 @@ module _ (t : ℕ) where
       let l = entered-in c in
       let e = at-entry l in
       let b = entered-at c .before in
-      let met = some-below (some-value l) (long l) (l .loop .inv) (block-left (b .before)) (b .part-at .ensures) (entered c) in
-      (omega (arith, e .pre .0, some-value l), (e .pre .1 .0, record {
-        small = omega (arith, e .pre .1 .1 .small);
-        below = start-below c;
-        met = rw (left c) met;
-      }))
+      let met = some-below (some-value l) (long l) (l .loop .inv) (block-left (b .before)) (b .part-at .ensures) (entered c) in (
+        omega (arith, e .pre .0, some-value l),
+        (
+          e .pre .1 .0,
+          record {
+            small = omega (arith, e .pre .1 .1 .small);
+            below = start-below c;
+            met = rw (left c) met;
+          },
+        ),
+      )
 
   first-add-calls : first-lts.Need-add-calls (calls t) (first-at t) first.Post first-Inv-loop first-μ-loop
   first-add-calls c =
@@ -302,17 +307,17 @@ module _ (t : ℕ) where
       let l = b .before .before in
       ⊎-elim
       (λ w.
-          let f : first-lts.After-first (calls t) (first-at t) first.Post first-Inv-loop first-μ-loop = record {
-            before = record { before = record { before = record { before = record { before = record { before = a; if2 = w .0 }; can-enter = w .1 }; if3 = w .2 }; rest = w .3 }; smaller = w .4 };
-            first = w .5;
-          } in
-          next a (none-found f (omega (arith, w .8 .left, is-size a))) (w .9))
+      let f : first-lts.After-first (calls t) (first-at t) first.Post first-Inv-loop first-μ-loop = record {
+        before = record { before = record { before = record { before = record { before = record { before = a; if2 = w .0 }; can-enter = w .1 }; if3 = w .2 }; rest = w .3 }; smaller = w .4 };
+        first = w .5;
+      } in
+      next a (none-found f (omega (arith, w .8 .left, is-size a))) (w .9))
       (λ w. next a
-          (⊎-elim
-          (λ v. stays-out (some-value l) (long l) (l .loop .inv) (block-left (b .before)) (b .part-at .ensures) (sym (v .1 .ensures) ∙ v .2 .left))
-          (λ v. passes-by (some-value l) (long l) (l .loop .inv) (block-left (b .before)) (b .part-at .ensures) (omega (arith, v .left, is-size a)))
-          (w .0 .came))
-          (w .1))
+      (⊎-elim
+      (λ v. stays-out (some-value l) (long l) (l .loop .inv) (block-left (b .before)) (b .part-at .ensures) (sym (v .1 .ensures) ∙ v .2 .left))
+      (λ v. passes-by (some-value l) (long l) (l .loop .inv) (block-left (b .before)) (b .part-at .ensures) (omega (arith, v .left, is-size a)))
+      (w .0 .came))
+      (w .1))
       (c .if2 .came)
 
   first-returns-3 : first-lts.Need-returns-3 (calls t) (first-at t) first.Post first-Inv-loop first-μ-loop
