@@ -1,5 +1,6 @@
 // Prints a line for each search that `stdin` names, n, k, a place in eight bytes, its highest byte first, and n wishes, a byte each: n, k and the place, the wishes, and the place found and
 // its permutation, or the refusal. `stdout` comes from another author's generator.
+use find::Found;
 use libc::STDIN_FILENO;
 
 // The place that eight bytes name.
@@ -13,34 +14,40 @@ fn place_of(bytes: &[u8]) -> u64 {
     place
 }
 
-// The answer of a search: `row` is as many bytes as there are wishes to write the permutation to.
-fn print_answer(n: u64, k: u64, place: u64, wishes: &[u8], row: &mut [u8]) {
-    let answer = find::find(n, k, place, wishes, row);
-    if answer.refusal != 0 {
+// What was found: its place and the permutation, or the refusal.
+fn print_found(found: Found, row: &[u8]) {
+    if found.refusal != 0 {
         print::text(b"refused ");
-        print::number(answer.refusal as u64);
+        print::number(found.refusal as u64);
         return;
     }
-    print::number(answer.place);
+    print::number(found.place);
     print::text(b" | ");
     print::values(row);
 }
 
-// The line of a search.
-fn print_line(k: u64, place: u64, wishes: &[u8]) {
-    let n = wishes.len();
-    if 20 < n {
-        return;
-    }
-    print::field(n as u64);
+// The line of a search: `row` is as many bytes as there are wishes to write the permutation to.
+fn print_line(k: u64, place: u64, wishes: &[u8], row: &mut [u8]) {
+    let n = wishes.len() as u64;
+    let found = find::find(n, k, place, wishes, row);
+    print::field(n);
     print::field(k);
     print::number(place);
     print::text(b" | ");
     print::values(wishes);
     print::text(b" | ");
-    let mut row = [0u8; 20];
-    print_answer(n as u64, k, place, wishes, &mut row[..n]);
+    print_found(found, row);
     print::text(b"\n");
+}
+
+// The same, with space for the permutation.
+fn print_search(k: u64, place: u64, wishes: &[u8]) {
+    let n = wishes.len();
+    if 20 < n {
+        return;
+    }
+    let mut row = [0u8; 20];
+    print_line(k, place, wishes, &mut row[..n]);
 }
 
 // The lines of all searches of a text.
@@ -53,7 +60,7 @@ fn print_all(text: &[u8]) {
             return;
         }
         let end = from + n;
-        print_line(
+        print_search(
             text[at + 1] as u64,
             place_of(&text[at + 2..from]),
             &text[from..end],

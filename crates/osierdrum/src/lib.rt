@@ -2,13 +2,16 @@
 use exchanges::Exchanges;
 use explain::Explanation;
 use explain::Level;
+use find::Found;
 use perm::Array;
 ghost use mathlib.Core.Path.{_≡_};
+ghost use lib.ListN.{length};
 ghost use Rattle.perm.specs.Checks.{ToArray, FromArray};
 ghost use Rattle.rank.specs.Place.{Unranked, Ranked, RowsWritten};
 ghost use Rattle.explain.specs.Explain.{Explains};
 ghost use Rattle.exchanges.specs.Between.{Exchanged};
 ghost use Rattle.inversion.specs.Calls.{FromInversions, ToInversions};
+ghost use Rattle.find.specs.Find.{findOf, writtenBy};
 ghost use Rattle.osierdrum.specs.Exports.{counted, standing};
 
 // A count, or a refusal with 0.
@@ -123,4 +126,14 @@ pub extern "C" fn osierdrum_to_inversions(s: &[u8], out: &mut [u8]) -> u8
     ensures { λ r. ⌜ ToInversions (now (s .entry)) (now (out .entry)) r (now (out .exit)) ⌝ }
 {
     inversion::to_inversions(s, out)
+}
+
+// The first permutation of S(n,k), at or after a place, that has the wished value at each position with a wish, a byte 0 leaving a position free: its place, and the
+// permutation in `out`. Refusals 1, 2, 3, 5, 6, 14.
+#[no_mangle]
+pub extern "C" fn osierdrum_find(n: u64, k: u64, place: u64, wishes: &[u8], out: &mut [u8]) -> Found
+    ensures answer { λ r. ⌜ r ≡ findOf n k place (now (wishes .entry)) (length (now (out .entry))) ⌝ }
+    ensures row { λ r. ⌜ now (out .exit) ≡ writtenBy n k r (now (out .entry)) ⌝ }
+{
+    find::find(n, k, place, wishes, out)
 }
