@@ -6,9 +6,9 @@
  * on, k is 1 to n.
  *
  * Refusals: 0 none; 1 n is more than 20; 2 k is not 1 to n, or with n = 0 not 0; 3 place >= c(n,k); 4 m is not 1 to 1000,
- * or more rows than are left; 5 a written slice has not the length asked for, two permutations have unequal lengths, or
- * the pairs do not fit; 6 a value or an entry out of range; 7 a value twice; 12 fewer levels lent than the permutation
- * has values. */
+ * or more rows than are left; 5 a written slice has not the length asked for, two permutations have unequal lengths, the
+ * pairs do not fit, or the wishes are not n long; 6 a value, an entry or a wish out of range; 7 a value twice; 12 fewer
+ * levels lent than the permutation has values; 14 no permutation from the place to the end meets the wishes. */
 #ifndef OSIERDRUM_H
 #define OSIERDRUM_H
 
@@ -25,6 +25,7 @@ struct osierdrum_Rank { uint8_t refusal; uint64_t k; uint64_t place; uint64_t fi
 struct osierdrum_Array { uint8_t refusal; uint64_t fixed; };
 struct osierdrum_Explanation { uint8_t refusal; uint64_t k; uint64_t place; };
 struct osierdrum_Exchanges { uint8_t refusal; uint64_t count; uint64_t written; };
+struct osierdrum_Found { uint8_t refusal; uint64_t place; };
 
 /* One size's part of an explanation: the letter 'a' to 'e' of the relation that gives the list at that size, whether the
  * list is read backward, the number from 0 in written order of the block that holds the permutation, and how many
@@ -75,6 +76,13 @@ uint8_t osierdrum_from_inversions(const uint8_t *a, size_t a_len, uint8_t *out, 
 
 /* The inversion table of a sequence of the values 1 to n, each once. Refusals 1, 5, 6, 7. The two slices do not overlap. */
 uint8_t osierdrum_to_inversions(const uint8_t *s, size_t s_len, uint8_t *out, size_t out_len);
+
+/* The first permutation of S(n,k), at or after a place, that has the wished value at each position with a wish: its place,
+ * and the permutation to n bytes. The wishes are n bytes, and a wish of 0 leaves its position free; a value that is wished
+ * at two positions is never met. Refusals 1, 2, 3, 5 for the wishes or out, 6 for a wish above n, 14. The two slices do
+ * not overlap. */
+struct osierdrum_Found osierdrum_find(uint64_t n, uint64_t k, uint64_t place, const uint8_t *wishes, size_t wishes_len,
+                                      uint8_t *out, size_t out_len);
 
 #ifdef __cplusplus
 }

@@ -37,6 +37,12 @@ pub struct Exchanges {
     pub written: u64,
 }
 
+#[repr(C)]
+pub struct Found {
+    pub refusal: u8,
+    pub place: u64,
+}
+
 extern "C" {
     pub fn osierdrum_count(n: u64, k: u64) -> Count;
     pub fn osierdrum_unrank(n: u64, k: u64, place: u64, out: *mut u8, out_len: usize) -> u8;
@@ -55,4 +61,13 @@ extern "C" {
     ) -> Exchanges;
     pub fn osierdrum_from_inversions(a: *const u8, a_len: usize, out: *mut u8, out_len: usize) -> u8;
     pub fn osierdrum_to_inversions(s: *const u8, s_len: usize, out: *mut u8, out_len: usize) -> u8;
+    pub fn osierdrum_find(
+        n: u64,
+        k: u64,
+        place: u64,
+        wishes: *const u8,
+        wishes_len: usize,
+        out: *mut u8,
+        out_len: usize,
+    ) -> Found;
 }

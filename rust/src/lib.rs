@@ -45,14 +45,16 @@ pub enum Refusal {
     /// 4: the number of rows is not 1 to 1,000, or more than are left from the place on.
     Rows = 4,
     /// 5: a written slice has not the length that is asked for, the rows do not fit behind the offset, two permutations
-    /// have unequal lengths, or the pairs do not fit.
+    /// have unequal lengths, the pairs do not fit, or the wishes are not n long.
     Lent = 5,
-    /// 6: a value is not 1 to n, or entry i of an array is not 1 to i.
+    /// 6: a value is not 1 to n, entry i of an array is not 1 to i, or a wish is above n.
     Value = 6,
     /// 7: a value occurs twice.
     Twice = 7,
     /// 12: fewer levels were lent than the permutation has values.
     Levels = 12,
+    /// 14: no permutation from the place to the end meets the wishes.
+    Unmet = 14,
 }
 
 impl Refusal {
@@ -68,6 +70,7 @@ impl Refusal {
             6 => Err(Refusal::Value),
             7 => Err(Refusal::Twice),
             12 => Err(Refusal::Levels),
+            14 => Err(Refusal::Unmet),
             _ => unreachable!("no call refuses {number}"),
         }
     }
@@ -84,6 +87,7 @@ impl fmt::Display for Refusal {
             Refusal::Value => "a value or an entry is out of range",
             Refusal::Twice => "a value occurs twice",
             Refusal::Levels => "fewer levels were lent than the permutation has values",
+            Refusal::Unmet => "no permutation from the place to the end meets the wishes",
         };
         write!(f, "refused {}: {why}", *self as u8)
     }
@@ -407,4 +411,33 @@ pub fn from_inversions(a: &[u8], out: &mut [u8]) -> Result<(), Refusal> {
 pub fn to_inversions(s: &[u8], out: &mut [u8]) -> Result<(), Refusal> {
     // SAFETY: each pointer and length are those of one slice, and the written one is ours alone.
     Refusal::checked(unsafe { ffi::osierdrum_to_inversions(s.as_ptr(), s.len(), out.as_mut_ptr(), out.len()) })
+}
+
+/// The place of the first permutation of S(n,k), at or after a place, that has the wished value at each position with a
+/// wish; the permutation is written to `out`. `wishes` and `out` are n bytes long, and a wish of 0 leaves its position
+/// free. A value that is wished at two positions is never met.
+///
+/// Asked again from the place after, it finds the next permutation that meets the wishes. If the list ended with the one
+/// found, there is no such place, and the refusal is [`Refusal::Place`].
+///
+/// Refusals, in this order: [`Refusal::Size`], [`Refusal::Cycles`], [`Refusal::Place`], [`Refusal::Lent`] for the wishes
+/// or `out`, [`Refusal::Value`] for a wish above n, [`Refusal::Unmet`].
+///
+/// ```
+/// use osierdrum::{find, Refusal};
+/// let wishes = [3, 0, 4, 0, 0]; // 3 at position 1 and 4 at position 3
+/// let mut row = [0; 5];
+/// let place = find(5, 2, 20, &wishes, &mut row)?;
+/// assert_eq!((place, row), (38, [3, 1, 4, 2, 5]));
+/// let next = find(5, 2, place + 1, &wishes, &mut row)?;
+/// assert_eq!((next, row), (44, [3, 5, 4, 1, 2]));
+/// assert_eq!(find(5, 2, next + 1, &wishes, &mut row), Err(Refusal::Unmet));
+/// assert_eq!(row, [3, 5, 4, 1, 2]); // as it was
+/// # Ok::<(), osierdrum::Refusal>(())
+/// ```
+pub fn find(n: u64, k: u64, place: u64, wishes: &[u8], out: &mut [u8]) -> Result<u64, Refusal> {
+    // SAFETY: each pointer and length are those of one slice, and the written one is ours alone.
+    let answer =
+        unsafe { ffi::osierdrum_find(n, k, place, wishes.as_ptr(), wishes.len(), out.as_mut_ptr(), out.len()) };
+    Refusal::checked(answer.refusal).map(|()| answer.place)
 }

@@ -1,4 +1,4 @@
--- The request's demands 2 and 3 as theorems, and what document 02, b) to h), adds, to be read from top to bottom beside them. Each is a law of a crate below, stated
+-- The request's demands 2 and 3 as theorems, and what document 02, b) to i), adds, to be read from top to bottom beside them. Each is a law of a crate below, stated
 -- in full here so that nothing has to be looked up but the definitions in specs/. What demand 1 asks is met by the proofs of the functions themselves
 -- (docs/DEMANDS.md says how). Assumes nothing.
 use mathlib.Core.Path.{_≡_, _∙_, sym, ap}
@@ -7,9 +7,9 @@ use Prim.Native.Nat.{ℕ, suc, _+_, _-_, _*_, _≤_, _<_, _^_}
 use mathlib.Core.Bool.{Bool, true, false}
 use mathlib.Core.List.{List, _∷_, _++_}
 use lib.Dec.{eqb}
-use lib.ListN.{length, getD, take}
+use lib.ListN.{length, getD, take, replicate}
 use Rattle.stirling.specs.Refusal.{refuse, unless}
-use Rattle.stirling.specs.Count.{c, countOf, checkCycles}
+use Rattle.stirling.specs.Count.{c, countOf, checkCycles, checkPlace}
 use Rattle.stirling.proofs.Counts.{cycles-passes, cycles-passed, fits}
 use Rattle.perm.specs.Lists.{tally, positions}
 use Rattle.perm.specs.Permutation.{IsPermutation, at, fixed, distance}
@@ -59,6 +59,12 @@ use Rattle.inversion.proofs.Calls.{table-back, sequence-back}
 use Rattle.inversion.proofs.Cases as Inversions
 use Rattle.sequences.specs.Listed.{Made, CompleteLows}
 use Rattle.sequences.proofs.Listed.{lows-cycles, sequences-of, one-list, complete-lows, length-sequences}
+use Rattle.find.specs.Meeting.{meets}
+use Rattle.find.specs.Find.{checkAsked, checkFind, findOf}
+use Rattle.find.specs.Counting.{Sound, meeting}
+use Rattle.find.proofs.Counting.{counted, unsound-none}
+use Rattle.find.proofs.Results as Results
+use Rattle.find.proofs.Cases as Wishes
 use Rattle.cursor.specs.declared.Cursor.{Cursor}
 use Rattle.cursor.specs.declared.Opening.{Opening}
 use Rattle.cursor.specs.declared.Opening.the-variants.{Whole, Section}
@@ -379,3 +385,53 @@ never-shared = Sections.sections-differ
 pub section-rows : (n k lowest highest : ℕ) → checkOpening (Section n k lowest highest) ≡ 0 → (t : ℕ) → lowest + t ≤ highest
     → permutationOf (forwards t (opened (Section n k lowest highest) .cursor)) ≡ rowAt (S n k) (lowest + t)
 section-rows = Sections.section-rows
+
+-- ---- Document 02, i): the first permutation that has some values where they are wished. `findOf` is what the call answers for every input
+
+-- a permutation meets wishes just where it has the wished value at each position with a wish
+pub wishes-met : (w : List ℕ) (s : Row) → meets w s ≡ true → (i : ℕ) → 1 ≤ i → i ≤ length w → (at w i ≡ 0 → ⊥) → at s i ≡ at w i
+wishes-met = Results.meets-each
+
+pub meets-wishes : (w : List ℕ) (s : Row) → ((i : ℕ) → 1 ≤ i → i ≤ length w → (at w i ≡ 0 → ⊥) → at s i ≡ at w i) → meets w s ≡ true
+meets-wishes = Results.meets-all
+
+-- what is found stands in the list, at or after the place, and meets the wishes; no row between the place and it does
+pub first-met : (n k place : ℕ) (w : List ℕ) (size : ℕ) → checkFind n k place w size ≡ 0
+    → (place ≤ findOf n k place w size .place)
+    × (findOf n k place w size .place < c n k)
+    × (meets w (rowAt (S n k) (findOf n k place w size .place)) ≡ true)
+    × ((q : ℕ) → place ≤ q → q < findOf n k place w size .place → meets w (rowAt (S n k) q) ≡ false)
+first-met = Results.found-first
+
+-- 14 is refused where what is asked passes the checks 1, 2, 3, 5 and 6, and no row from the place to the end meets the wishes
+pub refused-14 : (n k place : ℕ) (w : List ℕ) (size : ℕ) → checkAsked n k place w size ≡ 0
+    → ((q : ℕ) → place ≤ q → q < c n k → meets w (rowAt (S n k) q) ≡ false)
+    → findOf n k place w size .refusal ≡ 14
+refused-14 = Results.unmet-refused
+
+-- and only there
+pub only-refused-14 : (n k place : ℕ) (w : List ℕ) (size : ℕ) → findOf n k place w size .refusal ≡ 14
+    → (checkAsked n k place w size ≡ 0) × ((q : ℕ) → place ≤ q → q < c n k → meets w (rowAt (S n k) q) ≡ false)
+only-refused-14 = Results.refused-unmet
+
+-- a value wished at two positions is simply never met
+pub wished-twice : (n k place : ℕ) (w : List ℕ) (size : ℕ) → checkAsked n k place w size ≡ 0
+    → (i j : ℕ) → 1 ≤ i → i < j → j ≤ n → at w i ≡ at w j → (at w i ≡ 0 → ⊥)
+    → findOf n k place w size .refusal ≡ 14
+wished-twice = Results.wished-twice
+
+-- without wishes the answer is the place itself
+pub no-wishes : (n k place : ℕ) → checkPlace n k place ≡ 0 → findOf n k place (replicate n 0) n ≡ record { refusal = 0; place = place }
+no-wishes = Results.no-wishes
+
+-- how many permutations of n with k cycles meet wishes: c(m, k − q), where m positions are free and the wishes close q cycles; none where a value is wished twice or
+-- above n
+pub count-met : (n k : ℕ) (w : List ℕ) → Sound n w → tally (meets w) (S n k) ≡ meeting n k w
+count-met = counted
+
+pub count-unsound : (n k : ℕ) (w : List ℕ) → length w ≡ n → (Sound n w → ⊥) → tally (meets w) (S n k) ≡ 0
+count-unsound = unsound-none
+
+-- examples
+pub wish-cases : Wishes.Table
+wish-cases = Wishes.table

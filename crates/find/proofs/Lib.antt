@@ -9,3 +9,5 @@ pub mod Noting
 pub mod Possible
 pub mod Searching
 pub mod Answered
+pub mod Results
+pub mod Cases

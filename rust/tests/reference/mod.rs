@@ -4,6 +4,7 @@
 
 #![allow(dead_code)]
 
+mod find;
 pub mod relations;
 
 use osierdrum::Level;
