@@ -1,4 +1,7 @@
-// The first permutation of S(n,k), from a place on, that has the wished values at the positions with a wish.
+// The first permutation of S(n,k), from a place on, that has the wished value at each position with a wish. It is found by going down the blocks, never by going through the
+// list: a block is entered only if a count says that some row of it meets the wishes that are left.
+//
+// Wishes are kept as 21 bytes: index i has the wish of position i, and 0 for a free one; index 0 is no position.
 use gray::Block;
 use perm::REFUSED_LENT;
 use perm::REFUSED_VALUE;
@@ -18,15 +21,15 @@ ghost use Rattle.find.specs.Search.{wishesOf, Linked, noted, AreByValue,
 // No permutation from the place on meets the wishes.
 pub const REFUSED_UNMET: u8 = 14;
 
-// The place of the permutation found. Zero on a refusal.
+// The place of the permutation found, or a refusal with 0.
 #[repr(C)]
 pub struct Found {
     pub refusal: u8,
     pub place: u64,
 }
 
-// The wishes of a size, by the values: the position that wishes each, and 0 for a value that no position wishes; and how many positions are free. `sound` is false
-// where a value is wished twice or is above the size.
+// Wishes by their values: index v has the position that wishes v, and 0 where none does; and how many positions are free. `sound` is false where a value is wished
+// twice or is above the size: no permutation meets such wishes.
 struct ByValue {
     sound: bool,
     free: u64,
@@ -40,13 +43,13 @@ struct Part {
     backward: bool,
 }
 
-// Where a search stopped, the number of rows if it found none, and how many lists it went through.
+// The place at which a search stopped, which is the number of rows where it found none, and how many lists it went through.
 struct Search {
     place: u64,
     calls: u64,
 }
 
-// The wishes that are left below a block that puts value n at a position: what position n wishes, that position gets.
+// The wishes that are left below a block that puts value n at a position: that position gets, one size down, what position n has now, and so its wish.
 fn smaller(w: [u8; 21], position: u64, n: u64) -> [u8; 21]
     requires { ⌜ (position ≤ 20) × (n ≤ 20) ⌝ }
     ensures { λ r. ⌜ r ≡ set w position (getD w n 0) ⌝ }
@@ -56,7 +59,7 @@ fn smaller(w: [u8; 21], position: u64, n: u64) -> [u8; 21]
     left
 }
 
-// One position more.
+// One position more, with what it wishes.
 fn note(seen: ByValue, n: u64, position: u64, value: u8) -> ByValue
     requires { ⌜ (n ≤ 20) × (position ≤ 20) × (seen .free < 20) ⌝ }
     ensures { λ r. ⌜ r ≡ noted seen n position value ⌝ }
@@ -85,7 +88,7 @@ fn note(seen: ByValue, n: u64, position: u64, value: u8) -> ByValue
     }
 }
 
-// The wishes of n positions by the values.
+// The wishes of n positions by their values, in one pass.
 fn by_value(n: u64, w: [u8; 21]) -> ByValue
     requires { ⌜ n ≤ 20 ⌝ }
     ensures { λ r. ⌜ AreByValue n w r ⌝ }
@@ -103,7 +106,8 @@ fn by_value(n: u64, w: [u8; 21]) -> ByValue
     seen
 }
 
-// How many cycles the wishes close.
+// How many cycles the wishes of n positions close. The last position and its value are taken away, one size after another: the position that wishes the value gets the
+// wish of the last one, and where the last wishes itself a cycle is closed. A value or a position that is missing is index 0, which is no position.
 fn closed(n: u64, w: [u8; 21], p: [u8; 21]) -> u64
     requires { ⌜ (n ≤ 20) × Linked n w p ⌝ }
     ensures { λ r. ⌜ r ≡ closed n (wishesOf n w) ⌝ }
@@ -125,7 +129,7 @@ fn closed(n: u64, w: [u8; 21], p: [u8; 21]) -> u64
     count
 }
 
-// Whether some row of S(n,k) meets the wishes.
+// Whether some row of S(n,k) meets the wishes: the free positions have from one to as many cycles as they are, beside those that the wishes close. No table is needed.
 fn can_meet(n: u64, k: u64, w: [u8; 21]) -> bool
     requires { ⌜ n ≤ 20 ⌝ }
     ensures { λ r. ⌜ r ≡ some (meets (wishesOf n w)) (S n k) ⌝ }
@@ -166,7 +170,7 @@ fn part_at(n: u64, k: u64, backward: bool, number: u64) -> Part
     }
 }
 
-// Whether some row of a block meets the wishes.
+// Whether some row of a block meets the wishes: value n is granted where the block puts it, and some shorter row meets the wishes that are left.
 fn can_enter(n: u64, part: Part, w: [u8; 21]) -> bool
     requires { ⌜ (1 ≤ n) × (n ≤ 20) × (1 ≤ part .position) × (part .position ≤ n) ⌝ }
     ensures { λ r. ⌜ r ≡ enters n part w ⌝ }
@@ -178,8 +182,8 @@ fn can_enter(n: u64, part: Part, w: [u8; 21]) -> bool
     can_meet(n - 1, part.cycles, smaller(w, part.position, n))
 }
 
-// How far a start lies behind the rows before a block.
-fn rest(start: u64, before: u64) -> u64
+// Where a search from a start begins in a block: behind so many of its rows, or, where the start lies before it, at its first.
+fn start_in(start: u64, before: u64) -> u64
     ensures { λ r. ⌜ r ≡ start - before ⌝ }
 {
     if start < before {
@@ -188,7 +192,9 @@ fn rest(start: u64, before: u64) -> u64
     start - before
 }
 
-// The first row.
+// The first row, from a start on, of a reading of S(n,k) that meets the wishes; some row of the list does. Only the first block entered can fail, since the start lies
+// in its middle: any other is searched from its first row, and some row of it meets the wishes. So at most 2n+1 lists are gone through, each with at most n blocks, and a
+// block's count takes some 2n steps.
 fn first(counts: &[u64], n: u64, k: u64, backward: bool, start: u64, w: [u8; 21]) -> Search
     requires { ⌜ IsTable (now counts) ⌝ }
     requires { ⌜ Searchable n k start w ⌝ }
@@ -210,7 +216,7 @@ fn first(counts: &[u64], n: u64, k: u64, backward: bool, start: u64, w: [u8; 21]
                 n - 1,
                 part.cycles,
                 part.backward,
-                rest(start, before),
+                start_in(start, before),
                 smaller(w, part.position, n),
             );
             calls += below.calls;
@@ -230,14 +236,14 @@ fn first(counts: &[u64], n: u64, k: u64, backward: bool, start: u64, w: [u8; 21]
     }
 }
 
-// A refusal, with zero.
+// A refusal, with 0.
 fn refused(refusal: u8) -> Found
     ensures { λ r. ⌜ r ≡ record { refusal = refusal; place = 0 } ⌝ }
 {
     Found { refusal, place: 0 }
 }
 
-// Check 6 on wishes.
+// Check 6 on wishes: none is above n.
 fn check_wishes(n: u64, wishes: &[u8]) -> u8
     ensures { λ r. ⌜ r ≡ checkWishes n (now (wishes .entry)) ⌝ }
 {
@@ -269,7 +275,7 @@ fn check_asked(counts: &[u64], n: u64, k: u64, place: u64, wishes: &[u8], size: 
     check_wishes(n, wishes)
 }
 
-// The wishes by position.
+// The wishes, each at the index of its position.
 fn by_position(wishes: &[u8]) -> [u8; 21]
     requires { ⌜ length (now wishes) ≤ 20 ⌝ }
     ensures { λ r. ⌜ wishesOf (length (now (wishes .entry))) r ≡ now (wishes .entry) ⌝ }

@@ -26,7 +26,7 @@ use Rattle.find.proofs.first.Kinds as first-kinds
 use Rattle.find.proofs.+first.Lts-first as first-lts
 use Rattle.find.proofs.can_enter.Reads as can-enter-reads
 use Rattle.find.proofs.part_at.Reads as part-at-reads
-use Rattle.find.proofs.rest.Reads as rest-reads
+use Rattle.find.proofs.start_in.Reads as start-in-reads
 use Rattle.find.proofs.smaller.Reads as smaller-reads
 use Rattle.gray.proofs.block_count.Reads as block-count-reads
 use Rattle.stirling.proofs.entry.Reads as entry-reads
@@ -53,8 +53,8 @@ calls t = (
   entry-reads.Learnt,
   can-enter-reads.Asked,
   can-enter-reads.Learnt,
-  rest-reads.Asked,
-  rest-reads.Learnt,
+  start-in-reads.Asked,
+  start-in-reads.Learnt,
   smaller-reads.Asked,
   smaller-reads.Learnt,
   first-below t,
@@ -144,11 +144,11 @@ module _ (t : ℕ) where
 
   start-below : (m : first-lts.After-smaller (calls t) (first-at t) first.Post first-Inv-loop first-μ-loop)
       → let e = at-entry (entered-in m) .args in
-      m .before .rest .result < c (e .n - 1) (entered-at m .before .part-at .result .cycles)
+      m .before .start-in .result < c (e .n - 1) (entered-at m .before .part-at .result .cycles)
   start-below m =
       let l = entered-in m in
       let b = entered-at m .before in
-      omega (arith, m .before .rest .ensures, starts-below (some-value l) (long l) (l .loop .inv) (block-left (b .before)) (b .part-at .ensures) (entered m) (inside m))
+      omega (arith, m .before .start-in .ensures, starts-below (some-value l) (long l) (l .loop .inv) (block-left (b .before)) (b .part-at .ensures) (entered m) (inside m))
 
   -- what was found in it
   inner : (f : first-lts.After-first (calls t) (first-at t) first.Post first-Inv-loop first-μ-loop)
@@ -162,7 +162,7 @@ module _ (t : ℕ) where
       let q = entered-at m .before .part-at .result in
       subst
       (λ (x : ℕ). First (meets (smaller (e .n - 1) (q .position) (wishesOf (e .n) (e .w)))) (readingOf (q .backward) (e .n - 1) (q .cycles)) x (f .first .result .place))
-      (m .before .rest .ensures)
+      (m .before .start-in .ensures)
       (first-of (left m) (omega (arith, start-below m)) (f .first .ensures))
 
   -- a row of it
@@ -182,7 +182,7 @@ module _ (t : ℕ) where
       u
       (omega (arith, next-most a, is-size a))
       (f .first .ensures .few)
-      (λ z. f .first .ensures .straight (m .before .rest .ensures ∙ z))
+      (λ z. f .first .ensures .straight (m .before .start-in .ensures ∙ z))
 
   -- or none, and the search goes on
   none-found : (f : first-lts.After-first (calls t) (first-at t) first.Post first-Inv-loop first-μ-loop)
@@ -244,8 +244,8 @@ module _ (t : ℕ) where
   first-sub-first : first-lts.Need-sub-first (calls t) (first-at t) first.Post first-Inv-loop first-μ-loop
   first-sub-first c = some-value (c .before .before .before .before .before .before)
 
-  first-rest-requires : first-lts.Need-rest-requires (calls t) (first-at t) first.Post first-Inv-loop first-μ-loop
-  first-rest-requires c κs = tt
+  first-start-in-requires : first-lts.Need-start-in-requires (calls t) (first-at t) first.Post first-Inv-loop first-μ-loop
+  first-start-in-requires c κs = tt
 
   first-smaller-requires : first-lts.Need-smaller-requires (calls t) (first-at t) first.Post first-Inv-loop first-μ-loop
   first-smaller-requires c κs =
@@ -308,7 +308,7 @@ module _ (t : ℕ) where
       ⊎-elim
       (λ w.
       let f : first-lts.After-first (calls t) (first-at t) first.Post first-Inv-loop first-μ-loop = record {
-        before = record { before = record { before = record { before = record { before = record { before = a; if2 = w .0 }; can-enter = w .1 }; if3 = w .2 }; rest = w .3 }; smaller = w .4 };
+        before = record { before = record { before = record { before = record { before = record { before = a; if2 = w .0 }; can-enter = w .1 }; if3 = w .2 }; start-in = w .3 }; smaller = w .4 };
         first = w .5;
       } in
       next a (none-found f (omega (arith, w .8 .left, is-size a))) (w .9))
@@ -338,7 +338,7 @@ pub +first-spec : {M : Type 1} → statement M
     (first-add-next t)
     (first-can-enter-requires t)
     (first-sub-first t)
-    (first-rest-requires t)
+    (first-start-in-requires t)
     (first-smaller-requires t)
     (first-first-requires t)
     (first-add-calls t)
