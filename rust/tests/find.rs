@@ -277,5 +277,213 @@ fn random_searches_up_to_twenty() {
             }
         }
     }
-    for k in 0..5 { for s in 0..5 { println!("{:?} {:?} {:?}", KINDS[k], STARTS[s], met[k][s]); } }
+    for (kind, start) in KINDS.into_iter().flat_map(|kind| STARTS.map(|start| (kind, start))) {
+        let own = matches!(kind, Kind::Some | Kind::All | Kind::Cycles);
+        let past = matches!(start, Start::After | Start::Last);
+        let later = match start {
+            Start::First | Start::Before => true,
+            Start::At => !own,
+            Start::After => kind != Kind::All,
+            Start::Last => false,
+        };
+        let possible = [kind != Kind::Twice, kind != Kind::Twice && later, !own || past];
+        for (times, possible) in met[kind as usize][start as usize].into_iter().zip(possible) {
+            assert_eq!(times > 50, possible, "{kind:?} {start:?} {met:?}");
+            assert_eq!(times > 0, possible, "{kind:?} {start:?} {met:?}");
+        }
+    }
+}
+
+#[test]
+fn no_wishes_are_met_at_the_place() {
+    let reference = Reference::new();
+    let mut random = Random(41);
+    for n in 0..=20u64 {
+        for k in n.min(1)..=n {
+            let rows = reference.count(n, k).unwrap();
+            for place in [0, rows - 1].into_iter().chain((0..20).map(|_| random.below(rows))) {
+                let asked = Asked { n, k, place, wishes: vec![0; n as usize] };
+                let mut row = vec![0; n as usize];
+                assert_eq!(reference.unrank(n, k, place, &mut row), Ok(()));
+                assert_eq!(called(&asked, row.len()), Ok((place, row)), "{asked:?}");
+            }
+        }
+    }
+}
+
+/// The places of the rows that meet the wishes.
+fn places(rows: &[Vec<u8>], wishes: &[u8]) -> Vec<u64> {
+    (0..).zip(rows).filter(|(_, row)| meets(row, wishes)).map(|(place, _)| place).collect()
+}
+
+#[test]
+fn going_on_meets_each_once_in_order() {
+    let mut random = Random(43);
+    for n in 0..=6u64 {
+        for k in n.min(1)..=n {
+            let rows = list(n as usize, k as usize);
+            let wishes = if n <= 4 {
+                all_wishes(n as u8)
+            } else {
+                let from = |random: &mut Random| &rows[random.below(rows.len() as u64) as usize];
+                let made = KINDS.into_iter().flat_map(|kind| [kind; 40]);
+                made.map(|kind| { let row = from(&mut random); wished(&mut random, row, kind) }).collect()
+            };
+            for wishes in wishes {
+                assert_eq!(going_on(n, k, &wishes), places(&rows, &wishes), "{wishes:?} in S({n},{k})");
+            }
+        }
+    }
+}
+
+/// The cycles that wishes close, each counted at its least position: the wishes lead back there and pass none before it. No value is wished twice.
+fn closed(wishes: &[u8]) -> usize {
+    let least = |&i: &usize| {
+        let mut at = i;
+        while wishes[at] != 0 {
+            at = usize::from(wishes[at]) - 1;
+            if at <= i {
+                return at == i;
+            }
+        }
+        false
+    };
+    (0..wishes.len()).filter(least).count()
+}
+
+/// The wishes that close no cycle are paths, one to each free position, and a permutation of the paths joins them: m free positions and q closed cycles
+/// are met by c(m,k-q) rows.
+#[test]
+fn met_by_as_many_as_permutations_of_the_free_positions() {
+    let c = counts();
+    let mut random = Random(47);
+    let mut met = [0u32; 3];
+    for n in 0..=7usize {
+        for k in n.min(1)..=n {
+            let rows = list(n, k);
+            for kind in [Kind::Some, Kind::All, Kind::Cycles, Kind::Other].into_iter().flat_map(|kind| [kind; 25]) {
+                let row = &rows[random.below(rows.len() as u64) as usize];
+                let wishes = wished(&mut random, row, kind);
+                let (free, closed) = (wishes.iter().filter(|&&wish| wish == 0).count(), closed(&wishes));
+                let right = k.checked_sub(closed).map_or(0, |left| c[free][left]);
+                let places = places(&rows, &wishes);
+                assert_eq!(places.len() as u64, right, "{wishes:?} in S({n},{k})");
+                assert_eq!(going_on(n as u64, k as u64, &wishes), places, "{wishes:?} in S({n},{k})");
+                met[right.min(2) as usize] += 1;
+            }
+        }
+    }
+    assert!(met.iter().all(|&times| times > 200), "{met:?}");
+}
+
+/// What can be wrong with a call, from the last refusal to the first: a later one takes the place of an earlier one where both change the same.
+type Fault = (u8, fn(&mut Asked, &mut usize));
+const FAULTS: [Fault; 16] = [
+    (14, |asked, _| asked.wishes[3] = 3),
+    (14, |asked, _| asked.place = 45),
+    (6, |asked, _| asked.wishes[1] = 6),
+    (6, |asked, _| asked.wishes[4] = 255),
+    (5, |asked, _| asked.wishes.truncate(4)),
+    (5, |asked, _| asked.wishes.resize(6, 0)),
+    (5, |_, size| *size = 4),
+    (5, |_, size| *size = 6),
+    (3, |asked, _| asked.place = 50),
+    (3, |asked, _| asked.place = u64::MAX),
+    (2, |asked, _| asked.k = 0),
+    (2, |asked, _| asked.k = 6),
+    (2, |asked, _| asked.k = u64::MAX),
+    (1, |asked, _| asked.n = 21),
+    (1, |asked, _| asked.n = 256 + 5),
+    (1, |asked, _| asked.n = u64::MAX),
+];
+
+/// Every set of faults is refused as the first of them is: the refusals come in the order of their numbers.
+#[test]
+fn each_refusal_before_the_later_ones() {
+    let reference = Reference::new();
+    let good = Asked { n: 5, k: 2, place: 38, wishes: vec![3, 0, 4, 0, 0] };
+    assert_eq!(called(&good, 5), Ok((38, vec![3, 1, 4, 2, 5])));
+    for set in 0..1 << FAULTS.len() {
+        let (mut asked, mut size) = (good.clone(), 5);
+        let mut right = 0;
+        for (refusal, damage) in (0..).zip(FAULTS).filter(|(i, _)| set >> i & 1 == 1).map(|(_, fault)| fault) {
+            damage(&mut asked, &mut size);
+            right = refusal;
+        }
+        assert_eq!(refusal(same(&reference, &asked, size)), right, "{asked:?} with {size}");
+    }
+}
+
+#[test]
+fn wishes_up_to_n() {
+    let reference = Reference::new();
+    let mut random = Random(53);
+    for n in 1..=20u8 {
+        for position in 0..usize::from(n) {
+            for (wish, refused) in [(n, false), (n + 1, true), (255, true)] {
+                let (n, k) = (u64::from(n), 1 + random.below(n.into()));
+                let mut wishes = some(&mut random, &shuffled(&mut random, n as usize));
+                wishes[position] = wish;
+                let asked = Asked { n, k, place: random.below(reference.count(n, k).unwrap()), wishes };
+                assert_eq!(refusal(same(&reference, &asked, n as usize)) == 6, refused, "{asked:?}");
+            }
+        }
+    }
+}
+
+#[test]
+fn bytes_lent() {
+    let reference = Reference::new();
+    let mut random = Random(59);
+    for n in 0..=20usize {
+        let lengths = || (0..=n + 2).chain([64, 255, 256, 256 + n, 1000]);
+        for (length, size) in lengths().flat_map(|length| lengths().map(move |size| (length, size))) {
+            let k = n.min(1) as u64;
+            // the longer ones hold values above n too
+            let wishes = if length == n { vec![0; n] } else { (0..length).map(|_| random.next() as u8).collect() };
+            let right = if length == n && size == n { 0 } else { 5 };
+            let asked = Asked { n: n as u64, k, place: 0, wishes };
+            assert_eq!(refusal(same(&reference, &asked, size)), right, "{asked:?} with {size}");
+        }
+    }
+}
+
+#[test]
+fn refusals_by_name() {
+    let row = &mut [0; 5];
+    assert_eq!(find(21, 2, 0, &[0; 21], row), Err(Refusal::Size));
+    assert_eq!(find(5, 6, 0, &[0; 5], row), Err(Refusal::Cycles));
+    assert_eq!(find(5, 2, 50, &[0; 5], row), Err(Refusal::Place));
+    assert_eq!(find(5, 2, 0, &[0; 4], row), Err(Refusal::Lent));
+    assert_eq!(find(5, 2, 0, &[0; 5], &mut row[1..]), Err(Refusal::Lent));
+    assert_eq!(find(5, 2, 0, &[0, 0, 6, 0, 0], row), Err(Refusal::Value));
+    assert_eq!(find(5, 2, 0, &[0, 1, 0, 1, 0], row), Err(Refusal::Unmet));
+    assert_eq!(*row, [0; 5]);
+    assert_eq!(Refusal::Unmet as u8, 14);
+    let why = "refused 14: no permutation from the place to the end meets the wishes";
+    assert_eq!(Refusal::Unmet.to_string(), why);
+}
+
+#[test]
+fn damaged_at_random() {
+    let reference = Reference::new();
+    let mut random = Random(61);
+    let mut met = [0u32; 15];
+    for _ in 0..40_000 {
+        let n = random.below(22);
+        let k = random.below(n + 2);
+        let rows = reference.count(n, k).unwrap_or(1);
+        let place = random.below(rows + rows / 8 + 1);
+        let mut wishes = some(&mut random, &shuffled(&mut random, n as usize));
+        match random.below(8) {
+            0 => wishes.resize(random.below(24) as usize, 0),
+            1 if n > 0 => wishes[random.below(n) as usize] = random.next() as u8,
+            2 if n > 0 => wishes[random.below(n) as usize] = random.below(n + 2) as u8,
+            _ => {}
+        }
+        let size = if random.below(8) == 0 { random.below(24) } else { n };
+        let asked = Asked { n, k, place, wishes };
+        met[usize::from(refusal(same(&reference, &asked, size as usize)))] += 1;
+    }
+    assert!([0, 1, 2, 3, 5, 6, 14].iter().all(|&refusal| met[refusal] > 1_000), "{met:?}");
 }

@@ -64,7 +64,7 @@ use Rattle.find.specs.Find.{checkAsked, checkFind, findOf}
 use Rattle.find.specs.Counting.{Sound, meeting}
 use Rattle.find.proofs.Counting.{counted, unsound-none}
 use Rattle.find.proofs.Results as Results
-use Rattle.find.proofs.Cases as Wishes
+use Rattle.find.proofs.Cases as Searches
 use Rattle.cursor.specs.declared.Cursor.{Cursor}
 use Rattle.cursor.specs.declared.Opening.{Opening}
 use Rattle.cursor.specs.declared.Opening.the-variants.{Whole, Section}
@@ -389,11 +389,11 @@ section-rows = Sections.section-rows
 -- ---- Document 02, i): the first permutation that has some values where they are wished. `findOf` is what the call answers for every input
 
 -- a permutation meets wishes just where it has the wished value at each position with a wish
-pub wishes-met : (w : List ℕ) (s : Row) → meets w s ≡ true → (i : ℕ) → 1 ≤ i → i ≤ length w → (at w i ≡ 0 → ⊥) → at s i ≡ at w i
-wishes-met = Results.meets-each
+pub meets-each : (w : List ℕ) (s : Row) → meets w s ≡ true → (i : ℕ) → 1 ≤ i → i ≤ length w → (at w i ≡ 0 → ⊥) → at s i ≡ at w i
+meets-each = Results.meets-each
 
-pub meets-wishes : (w : List ℕ) (s : Row) → ((i : ℕ) → 1 ≤ i → i ≤ length w → (at w i ≡ 0 → ⊥) → at s i ≡ at w i) → meets w s ≡ true
-meets-wishes = Results.meets-all
+pub each-meets : (w : List ℕ) (s : Row) → ((i : ℕ) → 1 ≤ i → i ≤ length w → (at w i ≡ 0 → ⊥) → at s i ≡ at w i) → meets w s ≡ true
+each-meets = Results.meets-all
 
 -- what is found stands in the list, at or after the place, and meets the wishes; no row between the place and it does
 pub first-met : (n k place : ℕ) (w : List ℕ) (size : ℕ) → checkFind n k place w size ≡ 0
@@ -415,14 +415,14 @@ pub only-refused-14 : (n k place : ℕ) (w : List ℕ) (size : ℕ) → findOf n
 only-refused-14 = Results.refused-unmet
 
 -- a value wished at two positions is simply never met
-pub wished-twice : (n k place : ℕ) (w : List ℕ) (size : ℕ) → checkAsked n k place w size ≡ 0
+pub value-twice : (n k place : ℕ) (w : List ℕ) (size : ℕ) → checkAsked n k place w size ≡ 0
     → (i j : ℕ) → 1 ≤ i → i < j → j ≤ n → at w i ≡ at w j → (at w i ≡ 0 → ⊥)
     → findOf n k place w size .refusal ≡ 14
-wished-twice = Results.wished-twice
+value-twice = Results.value-twice
 
 -- without wishes the answer is the place itself
-pub no-wishes : (n k place : ℕ) → checkPlace n k place ≡ 0 → findOf n k place (replicate n 0) n ≡ record { refusal = 0; place = place }
-no-wishes = Results.no-wishes
+pub all-free : (n k place : ℕ) → checkPlace n k place ≡ 0 → findOf n k place (replicate n 0) n ≡ record { refusal = 0; place = place }
+all-free = Results.all-free
 
 -- how many permutations of n with k cycles meet wishes: c(m, k − q), where m positions are free and the wishes close q cycles; none where a value is wished twice or
 -- above n
@@ -433,5 +433,5 @@ pub count-unsound : (n k : ℕ) (w : List ℕ) → length w ≡ n → (Sound n w
 count-unsound = unsound-none
 
 -- examples
-pub wish-cases : Wishes.Table
-wish-cases = Wishes.table
+pub find-cases : Searches.Table
+find-cases = Searches.table

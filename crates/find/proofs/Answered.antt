@@ -21,7 +21,7 @@ use Rattle.gray.proofs.Once.{length-S}
 use Rattle.rank.specs.Place.{checkUnrank, Unranked}
 use Rattle.find.specs.declared.Found.{Found}
 use Rattle.find.specs.Meeting.{meets, leastFrom}
-use Rattle.find.specs.Find.{checkLengths, checkWishes, checkAsked, checkMet, checkFind, findOf, writtenBy}
+use Rattle.find.specs.Find.{checkLengths, checkPattern, checkAsked, checkMet, checkFind, findOf, writtenBy}
 use Rattle.find.proofs.Least.{First, least-first, first-least, first-some, first-none}
 
 -- a test that is one of two
@@ -40,24 +40,24 @@ neither false b e = (refl, e)
 module _ (n k place : ℕ) (w : List ℕ) (size : ℕ) where
   pub asked-place : {r : ℕ} → r ≡ checkPlace n k place → (r ≡ 0 → ⊥) → r ≡ checkAsked n k place w size
   asked-place {r} e d =
-      then-stops (checkPlace n k place then checkLengths n (length w) size) (checkWishes n w) r (then-stops (checkPlace n k place) (checkLengths n (length w) size) r e d) d
+      then-stops (checkPlace n k place then checkLengths n (length w) size) (checkPattern n w) r (then-stops (checkPlace n k place) (checkLengths n (length w) size) r e d) d
 
   lengths-refused : checkPlace n k place ≡ 0 → (not (eqb (length w) n) || not (eqb size n)) ≡ true → 5 ≡ checkAsked n k place w size
   lengths-refused e t = rw (e, t)
 
-  pub asked-wishes-long : checkPlace n k place ≡ 0 → (length w ≡ n → ⊥) → 5 ≡ checkAsked n k place w size
-  asked-wishes-long e d = lengths-refused e (first-of-two _ (not (eqb size n)) (ap not (ne-eqb (length w) n d)))
+  pub asked-pattern-length : checkPlace n k place ≡ 0 → (length w ≡ n → ⊥) → 5 ≡ checkAsked n k place w size
+  asked-pattern-length e d = lengths-refused e (first-of-two _ (not (eqb size n)) (ap not (ne-eqb (length w) n d)))
 
   pub asked-lent : checkPlace n k place ≡ 0 → (size ≡ n → ⊥) → 5 ≡ checkAsked n k place w size
   asked-lent e d = lengths-refused e (second-of-two (not (eqb (length w) n)) _ (ap not (ne-eqb size n d)))
 
-  pub asked-values : {r : ℕ} → checkPlace n k place ≡ 0 → length w ≡ n → size ≡ n → r ≡ checkWishes n w → r ≡ checkAsked n k place w size
+  pub asked-values : {r : ℕ} → checkPlace n k place ≡ 0 → length w ≡ n → size ≡ n → r ≡ checkPattern n w → r ≡ checkAsked n k place w size
   asked-values e z s q = rw (e, eq-eqb (length w) n z, eq-eqb size n s) q
 
   -- where all of them pass
   pub asked-passed : checkAsked n k place w size ≡ 0 → (n ≤ 20) × (place < c n k) × (length w ≡ n) × (size ≡ n)
   asked-passed e =
-      let (a, _) = then-passed (checkPlace n k place then checkLengths n (length w) size) (checkWishes n w) e in
+      let (a, _) = then-passed (checkPlace n k place then checkLengths n (length w) size) (checkPattern n w) e in
       let (b, l) = then-passed (checkPlace n k place) (checkLengths n (length w) size) a in
       let (small, below) = place-passed n k place b in
       let (x, y) = neither (not (eqb (length w) n)) (not (eqb size n)) (refuse-passed _ 4 l) in

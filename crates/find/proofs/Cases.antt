@@ -21,9 +21,9 @@ pub record Table : Type 0 where
   pub four-last : findOf 4 2 4 (0 ∷ 0 ∷ 4 ∷ 0 ∷ []) 4 ≡ record { refusal = 0; place = 4 }
   pub four-past : findOf 4 2 6 (0 ∷ 0 ∷ 4 ∷ 0 ∷ []) 4 ≡ record { refusal = 14; place = 0 }
   -- two wishes: 1423
-  pub two-wishes : findOf 4 2 0 (0 ∷ 4 ∷ 0 ∷ 3 ∷ []) 4 ≡ record { refusal = 0; place = 9 }
+  pub two-values : findOf 4 2 0 (0 ∷ 4 ∷ 0 ∷ 3 ∷ []) 4 ≡ record { refusal = 0; place = 9 }
   -- all positions wished: the row itself, from any place up to its own
-  pub all-wished : findOf 4 2 2 (3 ∷ 1 ∷ 2 ∷ 4 ∷ []) 4 ≡ record { refusal = 0; place = 6 }
+  pub all-given : findOf 4 2 2 (3 ∷ 1 ∷ 2 ∷ 4 ∷ []) 4 ≡ record { refusal = 0; place = 6 }
   pub all-before : findOf 4 2 7 (3 ∷ 1 ∷ 2 ∷ 4 ∷ []) 4 ≡ record { refusal = 14; place = 0 }
   -- a value wished at two positions is never met
   pub twice : findOf 4 2 0 (2 ∷ 0 ∷ 2 ∷ 0 ∷ []) 4 ≡ record { refusal = 14; place = 0 }
@@ -31,7 +31,7 @@ pub record Table : Type 0 where
   pub free : findOf 4 2 8 (0 ∷ 0 ∷ 0 ∷ 0 ∷ []) 4 ≡ record { refusal = 0; place = 8 }
   -- the order of the refusals: 3, 5 for the wishes and for the slice, 6
   pub above : findOf 4 2 0 (5 ∷ 0 ∷ 2 ∷ 0 ∷ []) 4 ≡ record { refusal = 6; place = 0 }
-  pub wishes-short : findOf 4 2 0 (5 ∷ 0 ∷ 2 ∷ []) 4 ≡ record { refusal = 5; place = 0 }
+  pub pattern-short : findOf 4 2 0 (5 ∷ 0 ∷ 2 ∷ []) 4 ≡ record { refusal = 5; place = 0 }
   pub slice-long : findOf 4 2 0 (5 ∷ 0 ∷ 2 ∷ 0 ∷ []) 5 ≡ record { refusal = 5; place = 0 }
   pub past-the-end : findOf 4 2 11 (5 ∷ 0 ∷ 2 ∷ []) 5 ≡ record { refusal = 3; place = 0 }
   -- how many rows of S(4,2) meet wishes: value 4 at position 3, value 2 at its own position, and 4 and 1 at positions 1 and 4
@@ -49,13 +49,13 @@ table =
       three-on = refl;
       four-last = refl;
       four-past = refl;
-      two-wishes = refl;
-      all-wished = refl;
+      two-values = refl;
+      all-given = refl;
       all-before = refl;
       twice = refl;
       free = refl;
       above = refl;
-      wishes-short = refl;
+      pattern-short = refl;
       slice-long = refl;
       past-the-end = refl;
       count-four = refl;

@@ -87,18 +87,18 @@ position-absent v (x ∷ s) d = rw (ne-eqb v x (d 0 (omega arith)), position-abs
 
 -- where m + 1 is wished, in sound wishes of m + 1 positions
 module _ {m : ℕ} {w : List ℕ} (s : Sound (suc m) w) where
-  pub wished-at : (x : ℕ) → 1 ≤ x → x ≤ suc m → at w x ≡ suc m → position (suc m) w ≡ x
-  wished-at x l u e =
+  pub wanted-at : (x : ℕ) → 1 ≤ x → x ≤ suc m → at w x ≡ suc m → position (suc m) w ≡ x
+  wanted-at x l u e =
       let z = s .size in
       position-first (suc m) w (x - 1) (omega arith) (sym e)
       (λ j h f. let q = s .apart x (suc j) l u (omega arith) (omega arith) (e ∙ f ∙ sym (at-suc w j)) (λ o. omega arith) in omega arith)
       ∙ omega arith
 
-  wished-once : (x : ℕ) → 1 ≤ x → x ≤ suc m → at w x ≡ suc m → (i : ℕ) → 1 ≤ i → i ≤ suc m → at w i ≡ suc m → i ≡ x
-  wished-once x l u e i li ui f = s .apart i x li ui l u (f ∙ sym e) (λ o. omega arith)
+  wanted-once : (x : ℕ) → 1 ≤ x → x ≤ suc m → at w x ≡ suc m → (i : ℕ) → 1 ≤ i → i ≤ suc m → at w i ≡ suc m → i ≡ x
+  wanted-once x l u e i li ui f = s .apart i x li ui l u (f ∙ sym e) (λ o. omega arith)
 
-  pub wished-nowhere : ((i : ℕ) → 1 ≤ i → i ≤ suc m → at w i ≡ suc m → ⊥) → position (suc m) w ≡ suc m
-  wished-nowhere none =
+  pub wanted-nowhere : ((i : ℕ) → 1 ≤ i → i ≤ suc m → at w i ≡ suc m → ⊥) → position (suc m) w ≡ suc m
+  wanted-nowhere none =
       let z = s .size in
       position-absent (suc m) w (λ j h e. none (suc j) (omega arith) (omega arith) (at-suc w j ∙ sym e)) ∙ z
 
@@ -149,8 +149,8 @@ data Where (m : ℕ) (w : List ℕ) : Type 0 where
   other : (x : ℕ) → 1 ≤ x → x ≤ m → at w x ≡ suc m → Where m w
   nowhere : ((i : ℕ) → 1 ≤ i → i ≤ suc m → at w i ≡ suc m → ⊥) → Where m w
 
-where-wished : (m : ℕ) (w : List ℕ) → length w ≡ suc m → Where m w
-where-wished m w z = by-count (tally (eqb (suc m)) w) refl
+where-wanted : (m : ℕ) (w : List ℕ) → length w ≡ suc m → Where m w
+where-wanted m w z = by-count (tally (eqb (suc m)) w) refl
   where
     by-index : (i : ℕ) → i < length w → getD w i 0 ≡ suc m → Dec (i ≡ m) → Where m w
     by-index i h e (yes q) = last (ap (at w) (ap suc (sym q)) ∙ at-suc w i ∙ e)
@@ -191,13 +191,13 @@ module _ (m : ℕ) (shorter : (k : ℕ) (w : List ℕ) → Sound m w → tally (
   at-last e =
       let z = s .size in
       let u = smaller m n w in
-      let su = smaller-sound w z n (omega arith) (omega arith) s (wished-once s n (omega arith) (omega arith) e) in
+      let su = smaller-sound w z n (omega arith) (omega arith) s (wanted-once s n (omega arith) (omega arith) e) in
       counts 0 (meeting m k u) (free u) (suc (closed m u))
       (sum-zero _ m
       (λ i l h. inserted w z (suc k) i l h ∙ elsewhere w z (suc k) i n l (omega arith) (omega arith) (omega arith) (λ q. omega arith) e))
       (extended w z k ∙ rw (granted-same (at w n) n e) (shorter k u su))
       (omega (arith, tally-smaller w z n (omega arith) (omega arith) (eqb 0), ap one (ne-eqb 0 (at w n) (λ o. omega arith))))
-      (closed-by n (wished-at s n (omega arith) (omega arith) e) ∙ rw (eq-eqb (at w n) n e) (omega arith))
+      (closed-by n (wanted-at s n (omega arith) (omega arith) e) ∙ rw (eq-eqb (at w n) n e) (omega arith))
       (omega (arith, left-suc (free u) (closed m u) k))
 
   -- at another position x: each row inserts it there
@@ -206,14 +206,14 @@ module _ (m : ℕ) (shorter : (k : ℕ) (w : List ℕ) → Sound m w → tally (
       let z = s .size in
       let v : x ≤ n = omega arith in
       let u = smaller m x w in
-      let su = smaller-sound w z x l v s (wished-once s x l v e) in
-      let d : at w n ≡ n → ⊥ = λ f. let q = wished-once s x l v e n (omega arith) (omega arith) f in omega arith in
+      let su = smaller-sound w z x l v s (wanted-once s x l v e) in
+      let d : at w n ≡ n → ⊥ = λ f. let q = wanted-once s x l v e n (omega arith) (omega arith) f in omega arith in
       counts (meeting m (suc k) u) 0 (free u) (closed m u)
       (sum-one _ m x l h (λ j lj hj g. inserted w z (suc k) j lj hj ∙ elsewhere w z (suc k) j x lj (omega arith) l v g e)
       ∙ inserted w z (suc k) x l h ∙ rw (granted-same (at w x) n e) (shorter (suc k) u su))
       (extended w z k ∙ elsewhere w z k n x (omega arith) (omega arith) l v (λ q. omega arith) e)
       (omega (arith, tally-smaller w z x l v (eqb 0), ap one (ne-eqb 0 (at w x) (λ o. omega arith))))
-      (closed-by x (wished-at s x l v e) ∙ rw (ne-eqb (at w n) n d) (omega arith))
+      (closed-by x (wanted-at s x l v e) ∙ rw (ne-eqb (at w n) n d) (omega arith))
       (omega arith)
 
   -- nowhere: the other positions keep their wishes
@@ -232,16 +232,16 @@ module _ (m : ℕ) (shorter : (k : ℕ) (w : List ℕ) → Sound m w → tally (
 
     u-closed : closed n w ≡ closed m u
     u-closed =
-        closed-by n (wished-nowhere s none)
+        closed-by n (wanted-nowhere s none)
         ∙ rw (ne-eqb (at w n) n (none n (omega arith) (omega arith))) (omega arith)
 
     -- a free position alone grants n
     grants : (i : ℕ) → 1 ≤ i → i ≤ n → granted (at w i) n ≡ eqb 0 (at w i)
-    grants i l h = by-wish (ℕ-discrete (at w i) 0)
+    grants i l h = by-entry (ℕ-discrete (at w i) 0)
       where
-        by-wish : Dec (at w i ≡ 0) → granted (at w i) n ≡ eqb 0 (at w i)
-        by-wish (yes e) = granted-free (at w i) n e ∙ sym (eq-eqb 0 (at w i) (sym e))
-        by-wish (no d) = granted-false (at w i) n d (none i l h) ∙ sym (ne-eqb 0 (at w i) (λ e. d (sym e)))
+        by-entry : Dec (at w i ≡ 0) → granted (at w i) n ≡ eqb 0 (at w i)
+        by-entry (yes e) = granted-free (at w i) n e ∙ sym (eq-eqb 0 (at w i) (sym e))
+        by-entry (no d) = granted-false (at w i) n d (none i l h) ∙ sym (ne-eqb 0 (at w i) (λ e. d (sym e)))
 
     -- and position n is free: each row extends one that meets the other wishes, or inserts n into such a row at a free position
     top-free : at w n ≡ 0 → Counts
@@ -292,9 +292,9 @@ module _ (m : ℕ) (shorter : (k : ℕ) (w : List ℕ) → Sound m w → tally (
           other γ p i l h g = refuted (granted (at w i) n && meets (smaller m i w) γ) (λ t.
               let rest = and-true (granted (at w i) n) (meets (smaller m i w) γ) t .1 in
               let here = smaller-here w (s .size) i l (omega arith) h in
-              let wish = granted-true _ (at γ i) (meets-at (smaller m i w) γ rest i l (rw (length-smaller w (s .size) i l (omega arith)) h))
+              let entry = granted-true _ (at γ i) (meets-at (smaller m i w) γ rest i l (rw (length-smaller w (s .size) i l (omega arith)) h))
               (λ o. d (sym here ∙ o)) in
-              g (sym wish ∙ here))
+              g (sym entry ∙ here))
 
           -- the position y that has the value: what is left is met just if the other wishes are, since y is free
           to-front : (γ : Row) (y : ℕ) → 1 ≤ y → y ≤ m → (granted (at w y) n && meets (smaller m y w) γ) ≡ true → meets u γ ≡ true
@@ -314,14 +314,14 @@ module _ (m : ℕ) (shorter : (k : ℕ) (w : List ℕ) → Sound m w → tally (
           from-front : (γ : Row) (y : ℕ) → 1 ≤ y → y ≤ m → at γ y ≡ at w n → meets u γ ≡ true → (granted (at w y) n && meets (smaller m y w) γ) ≡ true
           from-front γ y l h ey t =
               let each = meets-at u γ t in
-              let free-there : at w y ≡ 0 = no-wish y l h ey (rw (u-at y l h) at (each y l (rw (u-sound .size) h))) (ℕ-discrete (at w y) 0) in
+              let free-there : at w y ≡ 0 = is-free y l h ey (rw (u-at y l h) at (each y l (rw (u-sound .size) h))) (ℕ-discrete (at w y) 0) in
               both-true _ _ (granted-free (at w y) n free-there)
               (meets-holds (smaller m y w) γ (λ i li hi.
               by-position y l h ey each i li (rw (length-smaller w (s .size) y l (omega arith)) at hi) (ℕ-discrete i y)))
             where
-              no-wish : (y : ℕ) → 1 ≤ y → y ≤ m → at γ y ≡ at w n → granted (at w y) (at γ y) ≡ true → Dec (at w y ≡ 0) → at w y ≡ 0
-              no-wish y l h ey g (yes f) = f
-              no-wish y l h ey g (no f) =
+              is-free : (y : ℕ) → 1 ≤ y → y ≤ m → at γ y ≡ at w n → granted (at w y) (at γ y) ≡ true → Dec (at w y ≡ 0) → at w y ≡ 0
+              is-free y l h ey g (yes f) = f
+              is-free y l h ey g (no f) =
                   let q = s .apart y n l (omega arith) (omega arith) (omega arith) (granted-true (at w y) (at γ y) g f ∙ ey) f in
                   absurd (omega arith)
 
@@ -333,8 +333,8 @@ module _ (m : ℕ) (shorter : (k : ℕ) (w : List ℕ) → Sound m w → tally (
               by-position y l h ey each i li hi (no g) =
                   rw (smaller-other w (s .size) y l (omega arith) i li hi g, ← u-at i li hi) (each i li (rw (u-sound .size) hi))
 
-      top-wished : Counts
-      top-wished =
+      top-taken : Counts
+      top-taken =
           let z = s .size in
           counts (meeting m (suc k) u) 0 (free u) (closed m u)
           (sum-tally (λ i γ. meets w (insert n i γ)) (meets u) m (S m (suc k))
@@ -352,12 +352,12 @@ module _ (m : ℕ) (shorter : (k : ℕ) (w : List ℕ) → Sound m w → tally (
     where
       by-top : Dec (at w n ≡ 0) → Counts
       by-top (yes e) = top-free none e
-      by-top (no d) = top-wished none d
+      by-top (no d) = top-taken none d
 
 -- without m + 1, sound wishes are sound
 next-sound : {m : ℕ} {w : List ℕ} → Sound (suc m) w
     → (1 ≤ position (suc m) w) × (position (suc m) w ≤ suc m) × Sound m (smaller m (position (suc m) w) w)
-next-sound {m} {w} s = by-where (where-wished m w (s .size))
+next-sound {m} {w} s = by-where (where-wanted m w (s .size))
   where
     at-position : (x : ℕ) → position (suc m) w ≡ x → 1 ≤ x → x ≤ suc m
         → ((i : ℕ) → 1 ≤ i → i ≤ suc m → at w i ≡ suc m → i ≡ x)
@@ -365,18 +365,18 @@ next-sound {m} {w} s = by-where (where-wished m w (s .size))
     at-position x e l u only = rw e (l, u, smaller-sound w (s .size) x l u s only)
 
     by-where : Where m w → (1 ≤ position (suc m) w) × (position (suc m) w ≤ suc m) × Sound m (smaller m (position (suc m) w) w)
-    by-where (last e) = at-position (suc m) (wished-at s (suc m) (omega arith) (omega arith) e) (omega arith) (omega arith) (wished-once s (suc m) (omega arith) (omega arith) e)
-    by-where (other x l h e) = at-position x (wished-at s x l (omega arith) e) l (omega arith) (wished-once s x l (omega arith) e)
-    by-where (nowhere none) = at-position (suc m) (wished-nowhere s none) (omega arith) (omega arith) (λ i l u e. absurd (none i l u e))
+    by-where (last e) = at-position (suc m) (wanted-at s (suc m) (omega arith) (omega arith) e) (omega arith) (omega arith) (wanted-once s (suc m) (omega arith) (omega arith) e)
+    by-where (other x l h e) = at-position x (wanted-at s x l (omega arith) e) l (omega arith) (wanted-once s x l (omega arith) e)
+    by-where (nowhere none) = at-position (suc m) (wanted-nowhere s none) (omega arith) (omega arith) (λ i l u e. absurd (none i l u e))
 
 -- some position is free, or some cycle is closed
 some-cycle : (m : ℕ) (w : List ℕ) → Sound (suc m) w → 1 ≤ closed (suc m) w + free w
 unfolding closed
-some-cycle zero w s = by-wish (ℕ-discrete (at w 1) 1)
+some-cycle zero w s = by-entry (ℕ-discrete (at w 1) 1)
   where
-    by-wish : Dec (at w 1 ≡ 1) → 1 ≤ one (eqb (at w 1) 1) + 0 + free w
-    by-wish (yes e) = omega (arith, ap one (eq-eqb (at w 1) 1 e))
-    by-wish (no d) =
+    by-entry : Dec (at w 1 ≡ 1) → 1 ≤ one (eqb (at w 1) 1) + 0 + free w
+    by-entry (yes e) = omega (arith, ap one (eq-eqb (at w 1) 1 e))
+    by-entry (no d) =
         let z : at w 1 ≡ 0 = omega (arith, s .bound 1 (omega arith) (omega arith)) in
         omega (arith, tally-smaller w (s .size) 1 (omega arith) (omega arith) (eqb 0), ap one (eq-eqb 0 (at w 1) (sym z)))
 some-cycle (suc m) w s =
@@ -392,4 +392,4 @@ counted zero (suc k) [] s = rw (le-leb 0 (suc k) (omega arith)) (sym (above 0 (s
 counted zero k (x ∷ w) s = absurd (omega (arith, s .size))
 counted (suc m) zero w s =
     tally-empty (meets w) (S-zero (suc m) (omega arith)) ∙ sym (left-none (free w) (closed (suc m) w) (some-cycle m w s))
-counted (suc m) (suc k) w s = by-where m (counted m) w s k (where-wished m w (s .size))
+counted (suc m) (suc k) w s = by-where m (counted m) w s k (where-wanted m w (s .size))

@@ -3,7 +3,7 @@ pub mod Shorter
 pub mod Sums
 pub mod Counting
 pub mod Least
-pub mod Wishes
+pub mod Patterns
 pub mod Links
 pub mod Noting
 pub mod Possible

@@ -12,25 +12,25 @@ use Rattle.perm.specs.Lists.{one}
 use Rattle.perm.specs.Permutation.{at}
 use Rattle.perm.specs.Array.{position}
 use Rattle.find.specs.Counting.{Sound, smaller, closed}
-use Rattle.find.specs.Search.{wishesOf, Points, Linked}
-use Rattle.find.proofs.Counting.{wished-at, wished-nowhere}
-use Rattle.find.proofs.Wishes.{length-wishes, wish-at, wishes-none, wishes-left}
+use Rattle.find.specs.Search.{patternOf, Points, Linked}
+use Rattle.find.proofs.Counting.{wanted-at, wanted-nowhere}
+use Rattle.find.proofs.Patterns.{length-pattern, pattern-at, pattern-none, pattern-left}
 
 -- linked wishes are sound
-pub linked-sound : {n : ℕ} (w p : List ℕ) → n < length w → Linked n w p → Sound n (wishesOf n w)
+pub linked-sound : {n : ℕ} (w p : List ℕ) → n < length w → Linked n w p → Sound n (patternOf n w)
 linked-sound {n} w p h k = record {
-  size = length-wishes n w h;
-  bound = λ i l u. rw (wish-at n w i l u) (by-wish i l u (ℕ-discrete (getD w i 0) 0));
+  size = length-pattern n w h;
+  bound = λ i l u. rw (pattern-at n w i l u) (by-entry i l u (ℕ-discrete (getD w i 0) 0));
   apart = λ i j li ui lj uj e d.
-      let ei = wish-at n w i li ui in
-      let same : getD w i 0 ≡ getD w j 0 = sym ei ∙ e ∙ wish-at n w j lj uj in
+      let ei = pattern-at n w i li ui in
+      let same : getD w i 0 ≡ getD w j 0 = sym ei ∙ e ∙ pattern-at n w j lj uj in
       let di : getD w i 0 ≡ 0 → ⊥ = λ z. d (ei ∙ z) in
-      sym (k .wishes i li ui di .1) ∙ ap (λ (v : ℕ). getD p v 0) same ∙ k .wishes j lj uj (λ z. di (same ∙ z)) .1;
+      sym (k .values i li ui di .1) ∙ ap (λ (v : ℕ). getD p v 0) same ∙ k .values j lj uj (λ z. di (same ∙ z)) .1;
 }
   where
-    by-wish : (i : ℕ) → 1 ≤ i → i ≤ n → Dec (getD w i 0 ≡ 0) → getD w i 0 ≤ n
-    by-wish i l u (yes z) = omega arith
-    by-wish i l u (no d) = k .wishes i l u d .0
+    by-entry : (i : ℕ) → 1 ≤ i → i ≤ n → Dec (getD w i 0 ≡ 0) → getD w i 0 ≤ n
+    by-entry i l u (yes z) = omega arith
+    by-entry i l u (no d) = k .values i l u d .0
 
 -- without the last position and the last value: the position that wished it wishes what the last did
 module _ (m : ℕ) (w p : List ℕ) (hw : suc m < length w) (hp : suc m < length p) where
@@ -64,52 +64,52 @@ module _ (m : ℕ) (w p : List ℕ) (hw : suc m < length w) (hp : suc m < length
 pub unlinked : (m : ℕ) (w p : List ℕ) → suc m < length w → suc m < length p → Linked (suc m) w p
     → Linked m (set w (getD p (suc m) 0) (getD w (suc m) 0)) (set p (getD w (suc m) 0) (getD p (suc m) 0))
 unlinked m w p hw hp k = record {
-  wishes = one-side m w p hw hp (k .wishes);
+  values = one-side m w p hw hp (k .values);
   positions = one-side m p w hp hw (k .positions);
 }
 
 -- and the cycles that the wishes close are those that are left to close, and one where the last position wishes itself
 module _ (m : ℕ) (w p : List ℕ) (h : suc m < length w) (k : Linked (suc m) w p) where
-  last-closed : (y : ℕ) → 1 ≤ y → y ≤ suc m → position (suc m) (wishesOf (suc m) w) ≡ y
-      → closed (suc m) (wishesOf (suc m) w) ≡ one (eqb (getD w (suc m) 0) (suc m)) + closed m (wishesOf m (set w y (getD w (suc m) 0)))
+  last-closed : (y : ℕ) → 1 ≤ y → y ≤ suc m → position (suc m) (patternOf (suc m) w) ≡ y
+      → closed (suc m) (patternOf (suc m) w) ≡ one (eqb (getD w (suc m) 0) (suc m)) + closed m (patternOf m (set w y (getD w (suc m) 0)))
   unfolding closed
   last-closed y l u e =
-      let a = wishesOf (suc m) w in
+      let a = patternOf (suc m) w in
       rw e
-      (ap (λ (v : ℕ). one (eqb v (suc m)) + closed m (smaller m y a)) (wish-at (suc m) w (suc m) (omega arith) (omega arith))
-      ∙ ap (λ (b : List ℕ). one (eqb (getD w (suc m) 0) (suc m)) + closed m b) (sym (wishes-left m w y l u)))
+      (ap (λ (v : ℕ). one (eqb v (suc m)) + closed m (smaller m y a)) (pattern-at (suc m) w (suc m) (omega arith) (omega arith))
+      ∙ ap (λ (b : List ℕ). one (eqb (getD w (suc m) 0) (suc m)) + closed m b) (sym (pattern-left m w y l u)))
 
-  pub unlinked-closed : closed (suc m) (wishesOf (suc m) w)
-      ≡ one (eqb (getD w (suc m) 0) (suc m)) + closed m (wishesOf m (set w (getD p (suc m) 0) (getD w (suc m) 0)))
+  pub unlinked-closed : closed (suc m) (patternOf (suc m) w)
+      ≡ one (eqb (getD w (suc m) 0) (suc m)) + closed m (patternOf m (set w (getD p (suc m) 0) (getD w (suc m) 0)))
   unlinked-closed = by-position (ℕ-discrete (getD p (suc m) 0) 0)
     where
-      by-position : Dec (getD p (suc m) 0 ≡ 0) → closed (suc m) (wishesOf (suc m) w)
-          ≡ one (eqb (getD w (suc m) 0) (suc m)) + closed m (wishesOf m (set w (getD p (suc m) 0) (getD w (suc m) 0)))
+      by-position : Dec (getD p (suc m) 0 ≡ 0) → closed (suc m) (patternOf (suc m) w)
+          ≡ one (eqb (getD w (suc m) 0) (suc m)) + closed m (patternOf m (set w (getD p (suc m) 0) (getD w (suc m) 0)))
       by-position (yes e) =
-          let none : (i : ℕ) → 1 ≤ i → i ≤ suc m → at (wishesOf (suc m) w) i ≡ suc m → ⊥ = λ i l u f.
-          let is : getD w i 0 ≡ suc m = sym (wish-at (suc m) w i l u) ∙ f in
-          let back = k .wishes i l u (λ z. omega arith) .1 in
+          let none : (i : ℕ) → 1 ≤ i → i ≤ suc m → at (patternOf (suc m) w) i ≡ suc m → ⊥ = λ i l u f.
+          let is : getD w i 0 ≡ suc m = sym (pattern-at (suc m) w i l u) ∙ f in
+          let back = k .values i l u (λ z. omega arith) .1 in
           omega (arith, ap (λ (j : ℕ). getD p j 0) is) in
-          last-closed (suc m) (omega arith) (omega arith) (wished-nowhere (linked-sound w p h k) none)
-          ∙ rw (set-getD w (suc m) 0, e, wishes-none m w (getD w (suc m) 0))
+          last-closed (suc m) (omega arith) (omega arith) (wanted-nowhere (linked-sound w p h k) none)
+          ∙ rw (set-getD w (suc m) 0, e, pattern-none m w (getD w (suc m) 0))
       by-position (no d) =
           let y = getD p (suc m) 0 in
           let (u, is) = k .positions (suc m) (omega arith) (omega arith) d in
           last-closed y (omega arith) u
-          (wished-at (linked-sound w p h k) y (omega arith) u (wish-at (suc m) w y (omega arith) u ∙ is))
+          (wanted-at (linked-sound w p h k) y (omega arith) u (pattern-at (suc m) w y (omega arith) u ∙ is))
 
 -- taking away position after position: the cycles counted, and those that the wishes of the first m positions close, are all
 pub record Closing (n : ℕ) (w₀ w p : List ℕ) (count m : ℕ) : Type 0 where
   pub small : m ≤ 20
   pub sizes : (length w ≡ 21) × (length p ≡ 21)
   pub linked : Linked m w p
-  pub counted : count + closed m (wishesOf m w) ≡ closed n (wishesOf n w₀)
+  pub counted : count + closed m (patternOf m w) ≡ closed n (patternOf n w₀)
   pub few : count + m ≤ 20
 
 pub closing-begins : {n : ℕ} {w p : List ℕ} → n ≤ 20 → length w ≡ 21 → length p ≡ 21 → Linked n w p → Closing n w w p 0 n
 closing-begins h zw zp k = record { small = h; sizes = (zw, zp); linked = k; counted = omega arith; few = omega arith }
 
-pub closing-ends : {n : ℕ} {w₀ w p : List ℕ} {count : ℕ} → Closing n w₀ w p count 0 → count ≡ closed n (wishesOf n w₀)
+pub closing-ends : {n : ℕ} {w₀ w p : List ℕ} {count : ℕ} → Closing n w₀ w p count 0 → count ≡ closed n (patternOf n w₀)
 unfolding closed
 closing-ends c = omega (arith, c .counted)
 
@@ -134,16 +134,16 @@ closing-next {n} {m} {w₀} {w} {p} {count} {more} c e =
 
 -- a wish and a position are small
 points-low : (n : ℕ) (w p : List ℕ) → 1 ≤ n → Points n w p → getD w n 0 ≤ n
-points-low n w p h f = by-wish (ℕ-discrete (getD w n 0) 0)
+points-low n w p h f = by-entry (ℕ-discrete (getD w n 0) 0)
   where
-    by-wish : Dec (getD w n 0 ≡ 0) → getD w n 0 ≤ n
-    by-wish (yes e) = omega arith
-    by-wish (no d) = f n h (omega arith) d .0
+    by-entry : Dec (getD w n 0 ≡ 0) → getD w n 0 ≤ n
+    by-entry (yes e) = omega arith
+    by-entry (no d) = f n h (omega arith) d .0
 
 -- with a position left
 module _ {n : ℕ} {w₀ w p : List ℕ} {count m : ℕ} (h : 1 ≤ m) (c : Closing n w₀ w p count m) where
-  pub low-wish : getD w m 0 ≤ 20
-  low-wish = omega (arith, points-low m w p h (c .linked .wishes), c .small)
+  pub low-value : getD w m 0 ≤ 20
+  low-value = omega (arith, points-low m w p h (c .linked .values), c .small)
 
   pub low-position : getD p m 0 ≤ 20
   low-position = omega (arith, points-low m p w h (c .linked .positions), c .small)

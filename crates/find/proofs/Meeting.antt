@@ -19,20 +19,20 @@ use Rattle.find.specs.Meeting.{granted, meets}
 use Rattle.find.specs.Counting.{Sound}
 
 -- a free position grants any value
-pub granted-free : (wish value : ℕ) → wish ≡ 0 → granted wish value ≡ true
-granted-free wish value e = rw (eq-eqb wish 0 e)
+pub granted-free : (entry value : ℕ) → entry ≡ 0 → granted entry value ≡ true
+granted-free entry value e = rw (eq-eqb entry 0 e)
 
 -- a wish is granted by its value
-pub granted-same : (wish value : ℕ) → wish ≡ value → granted wish value ≡ true
-granted-same wish value e =
-    cases (eqb wish 0) (λ t. rw t) (λ f. rw (f, eq-eqb wish value e))
+pub granted-same : (entry value : ℕ) → entry ≡ value → granted entry value ≡ true
+granted-same entry value e =
+    cases (eqb entry 0) (λ t. rw t) (λ f. rw (f, eq-eqb entry value e))
 
 -- and by no other
-pub granted-true : (wish value : ℕ) → granted wish value ≡ true → (wish ≡ 0 → ⊥) → wish ≡ value
-granted-true wish value e d = eqb-true wish value (rw (ne-eqb wish 0 d) at e)
+pub granted-true : (entry value : ℕ) → granted entry value ≡ true → (entry ≡ 0 → ⊥) → entry ≡ value
+granted-true entry value e d = eqb-true entry value (rw (ne-eqb entry 0 d) at e)
 
-pub granted-false : (wish value : ℕ) → (wish ≡ 0 → ⊥) → (wish ≡ value → ⊥) → granted wish value ≡ false
-granted-false wish value d f = rw (ne-eqb wish 0 d, ne-eqb wish value f)
+pub granted-false : (entry value : ℕ) → (entry ≡ 0 → ⊥) → (entry ≡ value → ⊥) → granted entry value ≡ false
+granted-false entry value d f = rw (ne-eqb entry 0 d, ne-eqb entry value f)
 
 -- two tests that pass alike are one
 pub agree : (a b : Bool) → (a ≡ true → b ≡ true) → (b ≡ true → a ≡ true) → a ≡ b
@@ -72,11 +72,11 @@ module _ {n : ℕ} (w : List ℕ) (s : Row) (size : length w ≡ n) (p : IsPermu
   pub met-sound : Sound n w
   met-sound = record {
     size = size;
-    bound = λ i l u. by-wish i l u (ℕ-discrete (at w i) 0);
+    bound = λ i l u. by-entry i l u (ℕ-discrete (at w i) 0);
     apart = λ i j li ui lj uj e d.
         injective p i j li ui lj uj (sym (met-at i li ui d) ∙ e ∙ met-at j lj uj (λ z. d (e ∙ z)));
   }
     where
-      by-wish : (i : ℕ) → 1 ≤ i → i ≤ n → Dec (at w i ≡ 0) → at w i ≤ n
-      by-wish i l u (yes z) = omega arith
-      by-wish i l u (no d) = omega (arith, met-at i l u d, in-range p i l u .1)
+      by-entry : (i : ℕ) → 1 ≤ i → i ≤ n → Dec (at w i ≡ 0) → at w i ≤ n
+      by-entry i l u (yes z) = omega arith
+      by-entry i l u (no d) = omega (arith, met-at i l u d, in-range p i l u .1)

@@ -16,23 +16,23 @@ use Rattle.perm.specs.Permutation.{at}
 use Rattle.perm.proofs.Tally.{tally-append}
 use Rattle.find.specs.declared.ByValue.{ByValue}
 use Rattle.find.specs.Counting.{Sound, free}
-use Rattle.find.specs.Search.{wishesOf, noted, AreByValue}
-use Rattle.find.proofs.Wishes.{wish-at}
+use Rattle.find.specs.Search.{patternOf, noted, AreByValue}
+use Rattle.find.proofs.Patterns.{pattern-at}
 
 -- the positions below i are noted
 pub record Seen (n : ℕ) (w : List ℕ) (i : ℕ) (r : ByValue) : Type 0 where
   pub size : length (r .positions) ≡ 21
-  pub wishes : r .sound ≡ true → (x : ℕ) → 1 ≤ x → x < i → (getD w x 0 ≡ 0 → ⊥) → (getD w x 0 ≤ n) × (getD (r .positions) (getD w x 0) 0 ≡ x)
+  pub values : r .sound ≡ true → (x : ℕ) → 1 ≤ x → x < i → (getD w x 0 ≡ 0 → ⊥) → (getD w x 0 ≤ n) × (getD (r .positions) (getD w x 0) 0 ≡ x)
   pub back : r .sound ≡ true → (v : ℕ) → 1 ≤ v → v ≤ n → (getD (r .positions) v 0 ≡ 0 → ⊥) → (getD (r .positions) v 0 < i) × (getD w (getD (r .positions) v 0) 0 ≡ v)
-  pub unsound : r .sound ≡ false → Sound n (wishesOf n w) → ⊥
-  pub counted : r .free ≡ free (wishesOf (i - 1) w)
+  pub unsound : r .sound ≡ false → Sound n (patternOf n w) → ⊥
+  pub counted : r .free ≡ free (patternOf (i - 1) w)
   pub few : r .free < i
 
 pub seen-none : (n : ℕ) (w : List ℕ) → n ≤ 20 → Seen n w 1 (record { sound = true; free = 0; positions = replicate 21 0 })
 unfolding tally
 seen-none n w h = record {
   size = refl;
-  wishes = λ t x l u d. absurd (omega arith);
+  values = λ t x l u d. absurd (omega arith);
   back = λ t v l u d. absurd (d (getD-replicate 21 v 0 0 (omega arith)));
   unsound = λ f s. true≢false f;
   counted = refl;
@@ -45,19 +45,19 @@ module _ {n : ℕ} {w : List ℕ} {i : ℕ} {r : ByValue} (small : n ≤ 20) (h 
   value = getD w i 0
 
   -- what is free of the first i
-  one-more : free (wishesOf (i + 1 - 1) w) ≡ free (wishesOf (i - 1) w) + one (eqb 0 value)
+  one-more : free (patternOf (i + 1 - 1) w) ≡ free (patternOf (i - 1) w) + one (eqb 0 value)
   unfolding tally
   one-more =
       let e : i + 1 - 1 ≡ suc (i - 1) = omega arith in
       let f : 1 + (i - 1) ≡ i = omega arith in
-      rw (e, take-suc (drop 1 w) (i - 1) 0 (omega (arith, length-drop 1 w)), tally-append (eqb 0) (wishesOf (i - 1) w) (getD (drop 1 w) (i - 1) 0 ∷ []), getD-drop 1 w (i - 1) 0, f)
+      rw (e, take-suc (drop 1 w) (i - 1) 0 (omega (arith, length-drop 1 w)), tally-append (eqb 0) (patternOf (i - 1) w) (getD (drop 1 w) (i - 1) 0 ∷ []), getD-drop 1 w (i - 1) 0, f)
       (omega arith)
 
   -- a free one
   note-free : value ≡ 0 → Seen n w (i + 1) (record { sound = r .sound; free = r .free + 1; positions = r .positions })
   note-free e = record {
     size = s .size;
-    wishes = λ t x lx ux d. s .wishes t x lx (before x ux d) d;
+    values = λ t x lx ux d. s .values t x lx (before x ux d) d;
     back = λ t v lv uv d. let (a, b) = s .back t v lv uv d in (omega arith, b);
     unsound = s .unsound;
     counted = omega (arith, one-more, ap one (eq-eqb 0 value (sym e)), s .counted);
@@ -68,43 +68,43 @@ module _ {n : ℕ} {w : List ℕ} {i : ℕ} {r : ByValue} (small : n ≤ 20) (h 
       before x ux d = let other : x ≡ i → ⊥ = λ q. d (ap (λ (j : ℕ). getD w j 0) q ∙ e) in omega arith
 
   module _ (d : value ≡ 0 → ⊥) where
-    still-free : r .free ≡ free (wishesOf (i + 1 - 1) w)
+    still-free : r .free ≡ free (patternOf (i + 1 - 1) w)
     still-free = omega (arith, one-more, ap one (ne-eqb 0 value (λ e. d (sym e))), s .counted)
 
     -- one that wishes a value above n, or one that is wished before
     pub note-unsound : (value ≤ n → getD (r .positions) value 0 ≡ 0 → ⊥) → Seen n w (i + 1) (record { sound = false; free = r .free; positions = r .positions })
     note-unsound bad = record {
       size = s .size;
-      wishes = λ t. absurd (false≢true t);
+      values = λ t. absurd (false≢true t);
       back = λ t. absurd (false≢true t);
       unsound = λ f. refute (r .sound) refl;
       counted = still-free;
       few = omega (arith, s .few);
     }
       where
-        refute : (b : Bool) → r .sound ≡ b → Sound n (wishesOf n w) → ⊥
+        refute : (b : Bool) → r .sound ≡ b → Sound n (patternOf n w) → ⊥
         refute false t q = s .unsound t q
         refute true t q =
-            let is = wish-at n w i l u in
+            let is = pattern-at n w i l u in
             let low : value ≤ n = omega (arith, is, q .bound i l u) in
             bad low (by-entry (ℕ-discrete (getD (r .positions) value 0) 0) low q t)
           where
-            by-entry : Dec (getD (r .positions) value 0 ≡ 0) → value ≤ n → Sound n (wishesOf n w) → r .sound ≡ true → getD (r .positions) value 0 ≡ 0
+            by-entry : Dec (getD (r .positions) value 0 ≡ 0) → value ≤ n → Sound n (patternOf n w) → r .sound ≡ true → getD (r .positions) value 0 ≡ 0
             by-entry (yes z) low q t = z
             by-entry (no z) low q t =
                 let y = getD (r .positions) value 0 in
                 let (a, b) = s .back t value (omega arith) low z in
-                let iy = wish-at n w y (omega arith) (omega arith) in
-                let ii = wish-at n w i l u in
+                let iy = pattern-at n w y (omega arith) (omega arith) in
+                let ii = pattern-at n w i l u in
                 let same = q .apart y i (omega arith) (omega arith) l u (iy ∙ b ∙ sym ii) (λ o. d (sym b ∙ sym iy ∙ o)) in
                 absurd (omega arith)
 
     -- and one that wishes a value that none before it does
-    pub note-wish : value ≤ n → getD (r .positions) value 0 ≡ 0
+    pub note-value : value ≤ n → getD (r .positions) value 0 ≡ 0
         → Seen n w (i + 1) (record { sound = r .sound; free = r .free; positions = set (r .positions) value i })
-    note-wish low new = record {
+    note-value low new = record {
       size = length-set (r .positions) value i ∙ s .size;
-      wishes = λ t x lx ux. by-position t x lx ux (ℕ-discrete x i);
+      values = λ t x lx ux. by-position t x lx ux (ℕ-discrete x i);
       back = λ t v lv uv. by-value t v lv uv (ℕ-discrete v value);
       unsound = s .unsound;
       counted = still-free;
@@ -115,7 +115,7 @@ module _ {n : ℕ} {w : List ℕ} {i : ℕ} {r : ByValue} (small : n ≤ 20) (h 
             → (getD w x 0 ≤ n) × (getD (set (r .positions) value i) (getD w x 0) 0 ≡ x)
         by-position t x lx ux (yes e) g = rw e (low, getD-set-same (r .positions) value i 0 (omega (arith, s .size)))
         by-position t x lx ux (no e) g =
-            let (a, b) = s .wishes t x lx (omega arith) g in
+            let (a, b) = s .values t x lx (omega arith) g in
             let other : getD w x 0 ≡ value → ⊥ = λ q. omega (arith, ap (λ (j : ℕ). getD (r .positions) j 0) q) in
             (a, getD-set-other (r .positions) value (getD w x 0) i 0 other ∙ b)
 
@@ -142,7 +142,7 @@ module _ {n : ℕ} {w : List ℕ} {i : ℕ} {r : ByValue} (small : n ≤ 20) (h 
           (record { sound = r .sound; free = r .free; positions = set (r .positions) value i }))
       by-value d true a b e = rw a (note-unsound d (λ low z. omega (arith, ltb-true n value a)))
       by-value d false a false e = rw (a, e) (note-unsound d (λ low z. eqb-false _ 0 e z))
-      by-value d false a true e = rw (a, e) (note-wish d (ltb-false n value a) (eqb-true _ 0 e))
+      by-value d false a true e = rw (a, e) (note-value d (ltb-false n value a) (eqb-true _ 0 e))
 
 -- at last all are
 pub all-seen : {n : ℕ} {w : List ℕ} {i : ℕ} {r : ByValue} → n + 1 ≡ i → Seen n w i r → AreByValue n w r
@@ -150,9 +150,9 @@ all-seen {n} {w} {i} {r} e s =
     let f : i - 1 ≡ n = omega arith in
     record {
       linked = λ t. record {
-        wishes = λ x l u. s .wishes t x l (omega arith);
+        values = λ x l u. s .values t x l (omega arith);
         positions = λ v l u d. let (a, b) = s .back t v l u d in (omega arith, b);
       };
       unsound = s .unsound;
-      counted = s .counted ∙ ap (λ (j : ℕ). free (wishesOf j w)) f;
+      counted = s .counted ∙ ap (λ (j : ℕ). free (patternOf j w)) f;
     }

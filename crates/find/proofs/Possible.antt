@@ -18,9 +18,9 @@ use Rattle.gray.specs.Order.{S}
 use Rattle.find.specs.Meeting.{meets}
 use Rattle.find.specs.declared.ByValue.{ByValue}
 use Rattle.find.specs.Counting.{Sound, smaller, free, closed}
-use Rattle.find.specs.Search.{wishesOf, AreByValue}
+use Rattle.find.specs.Search.{patternOf, AreByValue}
 use Rattle.find.proofs.Counting.{unsound-none, counted}
-use Rattle.find.proofs.Wishes.{length-wishes}
+use Rattle.find.proofs.Patterns.{length-pattern}
 use Rattle.find.proofs.Links.{linked-sound}
 
 -- no row meets wishes that are not sound
@@ -67,23 +67,23 @@ few-closed (suc m) w = omega (arith, few-closed m (smaller m (position (suc m) w
 
 -- from the wishes by their values
 module _ {n : ℕ} (k : ℕ) {w : List ℕ} {r : ByValue} (h : n < length w) (b : AreByValue n w r) where
-  pub none-sound : r .sound ≡ false → false ≡ some (meets (wishesOf n w)) (S n k)
-  none-sound f = sym (met-unsound n k (wishesOf n w) (length-wishes n w h) (b .unsound f))
+  pub none-sound : r .sound ≡ false → false ≡ some (meets (patternOf n w)) (S n k)
+  none-sound f = sym (met-unsound n k (patternOf n w) (length-pattern n w h) (b .unsound f))
 
-  module _ (t : r .sound ≡ true) {q : ℕ} (e : q ≡ closed n (wishesOf n w)) where
-    sound : Sound n (wishesOf n w)
+  module _ (t : r .sound ≡ true) {q : ℕ} (e : q ≡ closed n (patternOf n w)) where
+    sound : Sound n (patternOf n w)
     sound = linked-sound w (r .positions) h (b .linked t)
 
     pub few : q + r .free ≤ n + n
-    few = omega (arith, e, few-closed n (wishesOf n w), b .counted, tally-not (eqb 0) (wishesOf n w), length-wishes n w h)
+    few = omega (arith, e, few-closed n (patternOf n w), b .counted, tally-not (eqb 0) (patternOf n w), length-pattern n w h)
 
-    pub all-closed : r .free ≡ 0 → eqb k q ≡ some (meets (wishesOf n w)) (S n k)
-    all-closed z = ap (eqb k) e ∙ sym (met-full n k (wishesOf n w) sound (sym (b .counted) ∙ z))
+    pub all-closed : r .free ≡ 0 → eqb k q ≡ some (meets (patternOf n w)) (S n k)
+    all-closed z = ap (eqb k) e ∙ sym (met-full n k (patternOf n w) sound (sym (b .counted) ∙ z))
 
     pub some-free : (r .free ≡ 0 → ⊥) → (x : Bool) → (x ≡ true → (q < k) × (k ≤ q + r .free)) → (x ≡ false → q < k → k ≤ q + r .free → ⊥)
-        → x ≡ some (meets (wishesOf n w)) (S n k)
+        → x ≡ some (meets (patternOf n w)) (S n k)
     some-free d true f g =
         let (l, u) = f refl in
-        sym (met-open n k (wishesOf n w) sound (λ z. d (b .counted ∙ z)) (omega (arith, e)) (omega (arith, e, b .counted)))
+        sym (met-open n k (patternOf n w) sound (λ z. d (b .counted ∙ z)) (omega (arith, e)) (omega (arith, e, b .counted)))
     some-free d false f g =
-        sym (met-fails n k (wishesOf n w) sound (λ z. d (b .counted ∙ z)) (λ l u. g refl (omega (arith, e)) (omega (arith, e, b .counted))))
+        sym (met-fails n k (patternOf n w) sound (λ z. d (b .counted ∙ z)) (λ l u. g refl (omega (arith, e)) (omega (arith, e, b .counted))))

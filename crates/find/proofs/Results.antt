@@ -21,7 +21,7 @@ use Rattle.gray.specs.Listing.{rowAt}
 use Rattle.gray.proofs.Once.{length-S, complete}
 use Rattle.find.specs.declared.Found.{Found}
 use Rattle.find.specs.Meeting.{granted, meets, leastFrom}
-use Rattle.find.specs.Find.{checkLengths, checkWishes, checkAsked, checkMet, checkFind, findOf}
+use Rattle.find.specs.Find.{checkLengths, checkPattern, checkAsked, checkMet, checkFind, findOf}
 use Rattle.find.specs.Counting.{Sound}
 use Rattle.find.proofs.Meeting.{granted-free, granted-same, granted-true, meets-holds, meets-at, met-sound}
 use Rattle.find.proofs.Least.{First, least-first, first-least, first-some, first-none}
@@ -29,11 +29,11 @@ use Rattle.find.proofs.Answered.{asked-passed, asked-values, find-met, 
 
 -- a permutation meets wishes where it has the wished value at each position with a wish
 pub meets-all : (w : List ℕ) (s : Row) → ((i : ℕ) → 1 ≤ i → i ≤ length w → (at w i ≡ 0 → ⊥) → at s i ≡ at w i) → meets w s ≡ true
-meets-all w s h = meets-holds w s (λ i l u. by-wish i (ℕ-discrete (at w i) 0) (h i l u))
+meets-all w s h = meets-holds w s (λ i l u. by-entry i (ℕ-discrete (at w i) 0) (h i l u))
   where
-    by-wish : (i : ℕ) → Dec (at w i ≡ 0) → ((at w i ≡ 0 → ⊥) → at s i ≡ at w i) → granted (at w i) (at s i) ≡ true
-    by-wish i (yes e) f = granted-free (at w i) (at s i) e
-    by-wish i (no d) f = granted-same (at w i) (at s i) (sym (f d))
+    by-entry : (i : ℕ) → Dec (at w i ≡ 0) → ((at w i ≡ 0 → ⊥) → at s i ≡ at w i) → granted (at w i) (at s i) ≡ true
+    by-entry i (yes e) f = granted-free (at w i) (at s i) e
+    by-entry i (no d) f = granted-same (at w i) (at s i) (sym (f d))
 
 -- and only there
 pub meets-each : (w : List ℕ) (s : Row) → meets w s ≡ true → (i : ℕ) → 1 ≤ i → i ≤ length w → (at w i ≡ 0 → ⊥) → at s i ≡ at w i
@@ -51,7 +51,7 @@ then-other (suc a) b d f e = d e
 module _ (n k place : ℕ) (w : List ℕ) (size : ℕ) where
   asked-other : checkAsked n k place w size ≡ 14 → ⊥
   asked-other =
-      then-other (checkPlace n k place then checkLengths n (length w) size) (checkWishes n w)
+      then-other (checkPlace n k place then checkLengths n (length w) size) (checkPattern n w)
       (then-other (checkPlace n k place) (checkLengths n (length w) size)
       (then-other (checkCycles n k) (refuse (leb (c n k) place) 3)
       (then-other (checkSize n) (refuse (not (cyclesTaken n k)) 2) (refuse-other (ltb 20 n) 1 (λ e. omega arith)) (refuse-other (not (cyclesTaken n k)) 2 (λ e. omega arith)))
@@ -109,8 +109,8 @@ module _ (n k place : ℕ) (w : List ℕ) (size : ℕ) where
           (z, λ q l u. f .none q l (omega arith))
 
   -- a value wished at two positions is never met
-  pub wished-twice : checkAsked n k place w size ≡ 0 → (i j : ℕ) → 1 ≤ i → i < j → j ≤ n → at w i ≡ at w j → (at w i ≡ 0 → ⊥) → findOf n k place w size .refusal ≡ 14
-  wished-twice e i j l h u same d =
+  pub value-twice : checkAsked n k place w size ≡ 0 → (i j : ℕ) → 1 ≤ i → i < j → j ≤ n → at w i ≡ at w j → (at w i ≡ 0 → ⊥) → findOf n k place w size .refusal ≡ 14
+  value-twice e i j l h u same d =
       let (_, _, z, _) = asked-passed n k place w size e in
       unmet-refused e (λ q a b. refuted (meets w (rowAt (S n k) q)) (λ t.
       let s = met-sound w (rowAt (S n k) q) z (complete n k .sound q (rw (length-S n k) b) .permutation) t in
@@ -118,12 +118,12 @@ module _ (n k place : ℕ) (w : List ℕ) (size : ℕ) where
       omega arith))
 
 -- without wishes the answer is the place itself
-pub no-wishes : (n k place : ℕ) → checkPlace n k place ≡ 0 → findOf n k place (replicate n 0) n ≡ record { refusal = 0; place = place }
-no-wishes n k place e =
+pub all-free : (n k place : ℕ) → checkPlace n k place ≡ 0 → findOf n k place (replicate n 0) n ≡ record { refusal = 0; place = place }
+all-free n k place e =
     let w : List ℕ = replicate n 0 in
     let (small, below) = place-passed n k place e in
     let z : length w ≡ n = length-replicate n 0 in
-    let values : checkWishes n w ≡ 0 =
+    let values : checkPattern n w ≡ 0 =
     refuse-passes _ 6 (le-ltb 0 (tally (ltb n) w) (omega (arith, tally-none (ltb n) 0 w (λ i l. rw (getD-replicate {A = ℕ} n i 0 0 (omega arith)) (le-ltb n 0 (omega arith)))))) in
     let asked : checkAsked n k place w n ≡ 0 = sym (asked-values n k place w n e z refl (sym values)) in
     let met : meets w (rowAt (S n k) place) ≡ true =

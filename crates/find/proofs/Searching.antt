@@ -33,10 +33,10 @@ use Rattle.find.specs.declared.Part.{Part}
 use Rattle.find.specs.declared.Search.{Search}
 use Rattle.find.specs.Meeting.{granted, meets, leastFrom}
 use Rattle.find.specs.Counting.{smaller}
-use Rattle.find.specs.Search.{wishesOf, partRead, enters, Searchable, Searched}
+use Rattle.find.specs.Search.{patternOf, partRead, enters, Searchable, Searched}
 use Rattle.find.proofs.Shorter.{meets-grown}
 use Rattle.find.proofs.Least.{First, least-first, first-least, first-none}
-use Rattle.find.proofs.Wishes.{length-wishes, wish-at}
+use Rattle.find.proofs.Patterns.{length-pattern, pattern-at}
 
 -- a reading has as many rows as the list, and a test counts alike in both
 pub length-reading : (backward : Bool) (n k : ℕ) → length (readingOf backward n k) ≡ c n k
@@ -121,8 +121,8 @@ module _ (n k : ℕ) (backward : Bool) (number : ℕ) (h : 1 ≤ n) (l : number 
 part-meets : (n k : ℕ) (backward : Bool) (number : ℕ) (w : List ℕ) → 1 ≤ n → n < length w → number < length (blocks n k)
     → let q = partRead n k backward number in
     (r : ℕ) → r < c (n - 1) (q .cycles)
-    → meets (wishesOf n w) (rowAt (readingOf backward n k) (before n k backward number + r))
-    ≡ (granted (getD w (q .position) 0) n && meets (smaller (n - 1) (q .position) (wishesOf n w)) (rowAt (readingOf (q .backward) (n - 1) (q .cycles)) r))
+    → meets (patternOf n w) (rowAt (readingOf backward n k) (before n k backward number + r))
+    ≡ (granted (getD w (q .position) 0) n && meets (smaller (n - 1) (q .position) (patternOf n w)) (rowAt (readingOf (q .backward) (n - 1) (q .cycles)) r))
 part-meets zero k backward number w h z l r u = absurd (omega arith)
 part-meets (suc m) k backward number w h z l r u =
     let q = partRead (suc m) k backward number in
@@ -130,17 +130,17 @@ part-meets (suc m) k backward number w h z l r u =
     let (lx, ux) = part-position (suc m) k backward number h l in
     let γ = rowAt (readingOf (q .backward) (suc m - 1) (q .cycles)) r in
     let long : length γ ≡ suc m - 1 = row-size (suc m - 1) (q .cycles) r (q .backward) u in
-    ap (meets (wishesOf (suc m) w)) (part-row (suc m) k backward number h l r u)
-    ∙ meets-grown (wishesOf (suc m) w) (length-wishes (suc m) w z) (q .position) lx ux γ (long ∙ e)
-    ∙ ap (λ (a : ℕ). granted a (suc m) && meets (smaller m (q .position) (wishesOf (suc m) w)) γ) (wish-at (suc m) w (q .position) lx ux)
-    ∙ ap (λ (j : ℕ). granted (getD w (q .position) 0) (suc m) && meets (smaller j (q .position) (wishesOf (suc m) w)) γ) (sym e)
+    ap (meets (patternOf (suc m) w)) (part-row (suc m) k backward number h l r u)
+    ∙ meets-grown (patternOf (suc m) w) (length-pattern (suc m) w z) (q .position) lx ux γ (long ∙ e)
+    ∙ ap (λ (a : ℕ). granted a (suc m) && meets (smaller m (q .position) (patternOf (suc m) w)) γ) (pattern-at (suc m) w (q .position) lx ux)
+    ∙ ap (λ (j : ℕ). granted (getD w (q .position) 0) (suc m) && meets (smaller j (q .position) (patternOf (suc m) w)) γ) (sym e)
 
 -- the search at a block of a reading: `first` rows stand before it, none of those from the start on meets the wishes, and at most one list below was gone through, one
 -- whose start lay in its middle
 pub record Going (n k : ℕ) (backward : Bool) (start : ℕ) (w : List ℕ) (number first calls : ℕ) : Type 0 where
   pub most : number ≤ length (blocks n k)
   pub stands : first ≡ before n k backward number
-  pub none : (i : ℕ) → start ≤ i → i < first → meets (wishesOf n w) (rowAt (readingOf backward n k) i) ≡ false
+  pub none : (i : ℕ) → start ≤ i → i < first → meets (patternOf n w) (rowAt (readingOf backward n k) i) ≡ false
   pub few : calls ≤ n + 1
   pub once : (calls ≡ 1) ⊎ ((1 ≤ start) × (start < first))
 
@@ -157,7 +157,7 @@ begins n k backward start w = record {
 pub ends : {n k : ℕ} {backward : Bool} {start : ℕ} {w : List ℕ} {number first calls : ℕ} → 1 ≤ n → start < c n k
     → Going n k backward start w number first calls
     → length (blocks n k) ≤ number
-    → First (meets (wishesOf n w)) (readingOf backward n k) start first
+    → First (meets (patternOf n w)) (readingOf backward n k) start first
 ends {n} {k} {backward} {start} {w} {number} {first} h s g l =
     let all : first ≡ c n k = g .stands ∙ before-all n k backward number h l in
     let z = length-reading backward n k in
@@ -179,17 +179,17 @@ module _ {n k : ℕ} {backward : Bool} {start : ℕ} {w : List ℕ} {number firs
       ∙ ap (λ (q : Part). before n k backward number + c (n - 1) (q .cycles)) e
       ∙ part-next n k backward number h l
 
-  meets-in : (r : ℕ) → r < size → meets (wishesOf n w) (rowAt (readingOf backward n k) (first + r))
-      ≡ (granted (getD w (here .position) 0) n && meets (smaller (n - 1) (here .position) (wishesOf n w)) (rowAt (readingOf (here .backward) (n - 1) (here .cycles)) r))
+  meets-in : (r : ℕ) → r < size → meets (patternOf n w) (rowAt (readingOf backward n k) (first + r))
+      ≡ (granted (getD w (here .position) 0) n && meets (smaller (n - 1) (here .position) (patternOf n w)) (rowAt (readingOf (here .backward) (n - 1) (here .cycles)) r))
   meets-in r u =
-      ap (λ (a : ℕ). meets (wishesOf n w) (rowAt (readingOf backward n k) (a + r))) (g .stands)
+      ap (λ (a : ℕ). meets (patternOf n w) (rowAt (readingOf backward n k) (a + r))) (g .stands)
       ∙ subst
-      (λ (q : Part). r < c (n - 1) (q .cycles) → meets (wishesOf n w) (rowAt (readingOf backward n k) (before n k backward number + r))
-      ≡ (granted (getD w (q .position) 0) n && meets (smaller (n - 1) (q .position) (wishesOf n w)) (rowAt (readingOf (q .backward) (n - 1) (q .cycles)) r)))
+      (λ (q : Part). r < c (n - 1) (q .cycles) → meets (patternOf n w) (rowAt (readingOf backward n k) (before n k backward number + r))
+      ≡ (granted (getD w (q .position) 0) n && meets (smaller (n - 1) (q .position) (patternOf n w)) (rowAt (readingOf (q .backward) (n - 1) (q .cycles)) r)))
       (sym e) (part-meets n k backward number w h z l r) u
 
   -- going on, where none of the block's rows from the start on meets the wishes
-  on : (calls' : ℕ) → ((r : ℕ) → r < size → start ≤ first + r → meets (wishesOf n w) (rowAt (readingOf backward n k) (first + r)) ≡ false)
+  on : (calls' : ℕ) → ((r : ℕ) → r < size → start ≤ first + r → meets (patternOf n w) (rowAt (readingOf backward n k) (first + r)) ≡ false)
       → calls' ≤ n + 1
       → (calls' ≡ 1) ⊎ ((1 ≤ start) × (start < first + size))
       → Going n k backward start w (suc number) (first + size) calls'
@@ -200,7 +200,7 @@ module _ {n k : ℕ} {backward : Bool} {start : ℕ} {w : List ℕ} {number firs
         (λ t. g .none i li (ltb-true i first t))
         (λ f.
         let e : first + (i - first) ≡ i = omega (arith, ltb-false i first f) in
-        subst (λ (j : ℕ). meets (wishesOf n w) (rowAt (readingOf backward n k) j) ≡ false) e (missed (i - first) (omega (arith, ltb-false i first f)) (omega arith)));
+        subst (λ (j : ℕ). meets (patternOf n w) (rowAt (readingOf backward n k) j) ≡ false) e (missed (i - first) (omega (arith, ltb-false i first f)) (omega arith)));
     few = few;
     once = once;
   }
@@ -212,19 +212,19 @@ module _ {n k : ℕ} {backward : Bool} {start : ℕ} {w : List ℕ} {number firs
   -- or none of its rows meets the wishes
   pub stays-out : enters n here w ≡ false → Going n k backward start w (suc number) (first + size) calls
   stays-out f =
-      on calls (λ r u s. meets-in r u ∙ by-wish (granted (getD w (here .position) 0) n) f r u) (g .few)
+      on calls (λ r u s. meets-in r u ∙ by-entry (granted (getD w (here .position) 0) n) f r u) (g .few)
       (⊎-elim inl (λ (b : (1 ≤ start) × (start < first)). inr (b .0, omega arith)) (g .once))
     where
-      by-wish : (b : Bool) → (b && some (meets (smaller (n - 1) (here .position) (wishesOf n w))) (S (n - 1) (here .cycles))) ≡ false
+      by-entry : (b : Bool) → (b && some (meets (smaller (n - 1) (here .position) (patternOf n w))) (S (n - 1) (here .cycles))) ≡ false
           → (r : ℕ) → r < size
-          → (b && meets (smaller (n - 1) (here .position) (wishesOf n w)) (rowAt (readingOf (here .backward) (n - 1) (here .cycles)) r)) ≡ false
-      by-wish false e r u = refl
-      by-wish true e r u = none-read (meets (smaller (n - 1) (here .position) (wishesOf n w))) (here .backward) (n - 1) (here .cycles) e r u
+          → (b && meets (smaller (n - 1) (here .position) (patternOf n w)) (rowAt (readingOf (here .backward) (n - 1) (here .cycles)) r)) ≡ false
+      by-entry false e r u = refl
+      by-entry true e r u = none-read (meets (smaller (n - 1) (here .position) (patternOf n w))) (here .backward) (n - 1) (here .cycles) e r u
 
   -- it is entered: its rows meet the wishes as the rows below meet what is left
   module _ (t : enters n here w ≡ true) where
     abbrev p : Row → Bool
-    p = meets (smaller (n - 1) (here .position) (wishesOf n w))
+    p = meets (smaller (n - 1) (here .position) (patternOf n w))
 
     abbrev below : List Row
     below = readingOf (here .backward) (n - 1) (here .cycles)
@@ -232,7 +232,7 @@ module _ {n k : ℕ} {backward : Bool} {start : ℕ} {w : List ℕ} {number firs
     pub some-below : some p (S (n - 1) (here .cycles)) ≡ true
     some-below = and-true (granted (getD w (here .position) 0) n) _ t .1
 
-    alike : (r : ℕ) → r < size → meets (wishesOf n w) (rowAt (readingOf backward n k) (first + r)) ≡ p (rowAt below r)
+    alike : (r : ℕ) → r < size → meets (patternOf n w) (rowAt (readingOf backward n k) (first + r)) ≡ p (rowAt below r)
     alike r u = meets-in r u ∙ ap (λ (b : Bool). b && p (rowAt below r)) (and-true (granted (getD w (here .position) 0) n) _ t .0)
 
     length-below : length below ≡ size
@@ -246,7 +246,7 @@ module _ {n k : ℕ} {backward : Bool} {start : ℕ} {w : List ℕ} {number firs
 
     module _ {r : ℕ} (f : First p below (start - first) r) (s : start < first + size) where
       -- the first row that meets the wishes is in it
-      pub found : r < size → First (meets (wishesOf n w)) (readingOf backward n k) start (first + r)
+      pub found : r < size → First (meets (patternOf n w)) (readingOf backward n k) start (first + r)
       found u =
           let all = length-reading backward n k in
           let most = before-most n k backward (suc number) h in
@@ -257,7 +257,7 @@ module _ {n k : ℕ} {backward : Bool} {start : ℕ} {w : List ℕ} {number firs
                 (λ q. g .none i li (ltb-true i first q))
                 (λ q.
                 let e : first + (i - first) ≡ i = omega (arith, ltb-false i first q) in
-                subst (λ (j : ℕ). meets (wishesOf n w) (rowAt (readingOf backward n k) j) ≡ false) e
+                subst (λ (j : ℕ). meets (patternOf n w) (rowAt (readingOf backward n k) j) ≡ false) e
                 (alike (i - first) (omega arith) ∙ f .none (i - first) (omega arith) (omega (arith, ltb-false i first q))));
             passes = λ _. alike r u ∙ f .passes (rw length-below u);
           }
@@ -291,7 +291,7 @@ few-rows (suc k) = omega arith
 pub searched-nothing : {n k : ℕ} {backward : Bool} {start : ℕ} {w : List ℕ} → n ≡ 0 → Searchable n k start w
     → Searched n k backward start w (record { place = 0; calls = 1 })
 searched-nothing {n} {k} {backward} {start} {w} e s =
-    let p = meets (wishesOf n w) in
+    let p = meets (patternOf n w) in
     let low : c n k ≤ 1 = rw e (few-rows k) in
     let first : start ≡ 0 = omega (arith, s .below) in
     let r = first-below p backward n k (s .met) (least-first p (readingOf backward n k) 0 (omega arith)) in
@@ -303,7 +303,7 @@ searched-nothing {n} {k} {backward} {start} {w} e s =
     }
 
 -- what the search of a list below says of its rows
-pub first-of : {n k : ℕ} {backward : Bool} {start : ℕ} {w u : List ℕ} {r : Search} → wishesOf n w ≡ u → start ≤ c n k
+pub first-of : {n k : ℕ} {backward : Bool} {start : ℕ} {w u : List ℕ} {r : Search} → patternOf n w ≡ u → start ≤ c n k
     → Searched n k backward start w r → First (meets u) (readingOf backward n k) start (r .place)
 first-of {n} {k} {backward} {start} {w} {u} {r} e h s =
     subst (λ (a : ℕ). First (meets u) (readingOf backward n k) start a)
@@ -313,14 +313,14 @@ first-of {n} {k} {backward} {start} {w} {u} {r} e h s =
 -- the search ends with what it found in a block, by as many lists as were gone through before and below
 pub searched-found : {n k : ℕ} {backward : Bool} {start : ℕ} {w : List ℕ} {number first calls r inner size : ℕ} → 1 ≤ n
     → Going n k backward start w number first calls
-    → First (meets (wishesOf n w)) (readingOf backward n k) start (first + r)
+    → First (meets (patternOf n w)) (readingOf backward n k) start (first + r)
     → r < size
     → first + size ≤ c n k
     → inner ≤ 2 * (n - 1) + 1
     → (start - first ≡ 0 → inner ≤ n - 1 + 1)
     → Searched n k backward start w (record { place = first + r; calls = calls + inner })
 searched-found {n} {k} {backward} {start} {w} {number} {first} {calls} {r} {inner} h g f u m few straight = record {
-  place = first-least (meets (wishesOf n w)) (readingOf backward n k) start f;
+  place = first-least (meets (patternOf n w)) (readingOf backward n k) start f;
   few = ⊎-elim
       (λ (e : calls ≡ 1). omega arith)
       (λ (b : (1 ≤ start) × (start < first)). omega (arith, g .few, straight (omega arith)))
@@ -339,7 +339,7 @@ pub searched-none : {n k : ℕ} {backward : Bool} {start : ℕ} {w : List ℕ} {
     → length (blocks n k) ≤ number
     → Searched n k backward start w (record { place = first; calls = calls })
 searched-none {n} {k} {backward} {start} {w} h s g l = record {
-  place = first-least (meets (wishesOf n w)) (readingOf backward n k) start (ends h (s .below) g l);
+  place = first-least (meets (patternOf n w)) (readingOf backward n k) start (ends h (s .below) g l);
   few = omega (arith, g .few);
   straight = λ _. g .few;
   missed = λ _. g .few;

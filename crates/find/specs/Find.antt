@@ -14,15 +14,15 @@ use Rattle.find.specs.Meeting.{meets, leastFrom}
 
 -- check 5: the wishes or the written slice are not n long
 abbrev pub checkLengths : ℕ → ℕ → ℕ → ℕ
-checkLengths n wishes size = refuse (not (eqb wishes n) || not (eqb size n)) 5
+checkLengths n values size = refuse (not (eqb values n) || not (eqb size n)) 5
 
 -- check 6 on wishes: a wish above n
-abbrev pub checkWishes : ℕ → List ℕ → ℕ
-checkWishes n w = refuse (some (ltb n) w) 6
+abbrev pub checkPattern : ℕ → List ℕ → ℕ
+checkPattern n w = refuse (some (ltb n) w) 6
 
 -- the checks of what is asked, before anything is looked for: 1, 2, 3, 5, 6
 abbrev pub checkAsked : ℕ → ℕ → ℕ → List ℕ → ℕ → ℕ
-checkAsked n k place w size = checkPlace n k place then checkLengths n (length w) size then checkWishes n w
+checkAsked n k place w size = checkPlace n k place then checkLengths n (length w) size then checkPattern n w
 
 -- check 14: no row from the place to the end meets the wishes
 abbrev pub checkMet : ℕ → ℕ → ℕ → List ℕ → ℕ

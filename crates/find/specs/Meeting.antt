@@ -10,7 +10,7 @@ use Rattle.gray.specs.Order.{Row}
 
 -- a position's wish and the value that stands there: 0 leaves the position free, and any other wish is for that value
 abbrev pub granted : ℕ → ℕ → Bool
-granted wish value = eqb wish 0 || eqb wish value
+granted entry value = eqb entry 0 || eqb entry value
 
 -- document 02's *wishes*, a number for each position: s has the wished value at each position with a wish
 unfoldable pub meets : List ℕ → Row → Bool

@@ -18,8 +18,8 @@ use Rattle.find.specs.Meeting.{granted, meets, leastFrom}
 use Rattle.find.specs.Counting.{Sound, smaller, free}
 
 -- the wishes of n positions, from a list that has the wish of position i at index i
-abbrev pub wishesOf : ℕ → List ℕ → List ℕ
-wishesOf n w = take n (drop 1 w)
+abbrev pub patternOf : ℕ → List ℕ → List ℕ
+patternOf n w = take n (drop 1 w)
 
 -- of two such lists, each wish of the one is for a value up to n, and the other has at that value the position that wishes it
 abbrev pub Points : ℕ → List ℕ → List ℕ → Type 0
@@ -27,7 +27,7 @@ Points n w p = (i : ℕ) → 1 ≤ i → i ≤ n → (getD w i 0 ≡ 0 → ⊥) 
 
 -- the wishes by position, and the positions by wish
 pub record Linked (n : ℕ) (w p : List ℕ) : Type 0 where
-  pub wishes : Points n w p
+  pub values : Points n w p
   pub positions : Points n p w
 
 -- one position more, with its wish
@@ -42,8 +42,8 @@ noted seen n position value =
 -- the wishes of n positions by their values
 pub record AreByValue (n : ℕ) (w : List ℕ) (r : ByValue) : Type 0 where
   pub linked : r .sound ≡ true → Linked n w (r .positions)
-  pub unsound : r .sound ≡ false → Sound n (wishesOf n w) → ⊥
-  pub counted : r .free ≡ free (wishesOf n w)
+  pub unsound : r .sound ≡ false → Sound n (patternOf n w) → ⊥
+  pub counted : r .free ≡ free (patternOf n w)
 
 -- what stands below the block with a number, counted as a reading of S(n,k) meets the blocks
 abbrev pub partRead : ℕ → ℕ → Bool → ℕ → Part
@@ -55,17 +55,17 @@ partRead n k backward number = record {
 
 -- some row of the block meets the wishes w of n positions: its value n is granted, and some shorter row meets what is left
 abbrev pub enters : ℕ → Part → List ℕ → Bool
-enters n part w = granted (getD w (part .position) 0) n && some (meets (smaller (n - 1) (part .position) (wishesOf n w))) (S (n - 1) (part .cycles))
+enters n part w = granted (getD w (part .position) 0) n && some (meets (smaller (n - 1) (part .position) (patternOf n w))) (S (n - 1) (part .cycles))
 
 -- a place of S(n,k) to start from, and wishes that some row of the list meets
 pub record Searchable (n k start : ℕ) (w : List ℕ) : Type 0 where
   pub small : n ≤ 20
   pub below : start < c n k
-  pub met : some (meets (wishesOf n w)) (S n k) ≡ true
+  pub met : some (meets (patternOf n w)) (S n k) ≡ true
 
 -- the first row from a place of a reading on, and how many lists were gone through: 2n + 1 at most, and n + 1 from place 0, or where none was found
 pub record Searched (n k : ℕ) (backward : Bool) (start : ℕ) (w : List ℕ) (r : Search) : Type 0 where
-  pub place : r .place ≡ leastFrom (meets (wishesOf n w)) (readingOf backward n k) start
+  pub place : r .place ≡ leastFrom (meets (patternOf n w)) (readingOf backward n k) start
   pub few : r .calls ≤ 2 * n + 1
   pub straight : start ≡ 0 → r .calls ≤ n + 1
   pub missed : c n k ≤ r .place → r .calls ≤ n + 1

@@ -14,9 +14,9 @@ ghost use Rattle.perm.specs.Lists.{some};
 ghost use Rattle.gray.specs.Order.{S};
 ghost use Rattle.gray.specs.Blocks.{blocks};
 ghost use Rattle.find.specs.Meeting.{meets, leastFrom};
-ghost use Rattle.find.specs.Find.{checkWishes, checkAsked, findOf, writtenBy};
+ghost use Rattle.find.specs.Find.{checkPattern, checkAsked, findOf, writtenBy};
 ghost use Rattle.find.specs.Counting.{closed};
-ghost use Rattle.find.specs.Search.{wishesOf, Linked, noted, AreByValue, partRead, enters, Searchable, Searched};
+ghost use Rattle.find.specs.Search.{patternOf, Linked, noted, AreByValue, partRead, enters, Searchable, Searched};
 
 // No permutation from the place on meets the wishes.
 pub const REFUSED_UNMET: u8 = 14;
@@ -110,19 +110,19 @@ fn by_value(n: u64, w: [u8; 21]) -> ByValue
 // wish of the last one, and where the last wishes itself a cycle is closed. A value or a position that is missing is index 0, which is no position.
 fn closed(n: u64, w: [u8; 21], p: [u8; 21]) -> u64
     requires { ⌜ (n ≤ 20) × Linked n w p ⌝ }
-    ensures { λ r. ⌜ r ≡ closed n (wishesOf n w) ⌝ }
+    ensures { λ r. ⌜ r ≡ closed n (patternOf n w) ⌝ }
 {
-    let mut wishes = w;
+    let mut values = w;
     let mut positions = p;
     let mut count = 0;
     let mut m = n;
     while m > 0 {
         let position = positions[m as usize];
-        let value = wishes[m as usize];
+        let value = values[m as usize];
         if value as u64 == m {
             count += 1;
         }
-        wishes[position as usize] = value;
+        values[position as usize] = value;
         positions[value as usize] = position;
         m -= 1;
     }
@@ -132,7 +132,7 @@ fn closed(n: u64, w: [u8; 21], p: [u8; 21]) -> u64
 // Whether some row of S(n,k) meets the wishes: the free positions have from one to as many cycles as they are, beside those that the wishes close. No table is needed.
 fn can_meet(n: u64, k: u64, w: [u8; 21]) -> bool
     requires { ⌜ n ≤ 20 ⌝ }
-    ensures { λ r. ⌜ r ≡ some (meets (wishesOf n w)) (S n k) ⌝ }
+    ensures { λ r. ⌜ r ≡ some (meets (patternOf n w)) (S n k) ⌝ }
 {
     let seen = by_value(n, w);
     if !seen.sound {
@@ -175,8 +175,8 @@ fn can_enter(n: u64, part: Part, w: [u8; 21]) -> bool
     requires { ⌜ (1 ≤ n) × (n ≤ 20) × (1 ≤ part .position) × (part .position ≤ n) ⌝ }
     ensures { λ r. ⌜ r ≡ enters n part w ⌝ }
 {
-    let wish = w[part.position as usize];
-    if wish != 0 && wish as u64 != n {
+    let entry = w[part.position as usize];
+    if entry != 0 && entry as u64 != n {
         return false;
     }
     can_meet(n - 1, part.cycles, smaller(w, part.position, n))
@@ -244,12 +244,12 @@ fn refused(refusal: u8) -> Found
 }
 
 // Check 6 on wishes: none is above n.
-fn check_wishes(n: u64, wishes: &[u8]) -> u8
-    ensures { λ r. ⌜ r ≡ checkWishes n (now (wishes .entry)) ⌝ }
+fn check_pattern(n: u64, pattern: &[u8]) -> u8
+    ensures { λ r. ⌜ r ≡ checkPattern n (now (pattern .entry)) ⌝ }
 {
     let mut i = 0;
-    while i < wishes.len() {
-        if wishes[i] as u64 > n {
+    while i < pattern.len() {
+        if pattern[i] as u64 > n {
             return REFUSED_VALUE;
         }
         i += 1;
@@ -258,44 +258,44 @@ fn check_wishes(n: u64, wishes: &[u8]) -> u8
 }
 
 // Checks 1, 2 and 3, then check 5 for the wishes and for a slice of `size` bytes, then check 6.
-fn check_asked(counts: &[u64], n: u64, k: u64, place: u64, wishes: &[u8], size: usize) -> u8
+fn check_asked(counts: &[u64], n: u64, k: u64, place: u64, pattern: &[u8], size: usize) -> u8
     requires { ⌜ IsTable (now counts) ⌝ }
-    ensures { λ r. ⌜ r ≡ checkAsked n k place (now (wishes .entry)) size ⌝ }
+    ensures { λ r. ⌜ r ≡ checkAsked n k place (now (pattern .entry)) size ⌝ }
 {
     let place_refusal = stirling::check_place_in(counts, n, k, place);
     if place_refusal != 0 {
         return place_refusal;
     }
-    if wishes.len() as u64 != n {
+    if pattern.len() as u64 != n {
         return REFUSED_LENT;
     }
     if size as u64 != n {
         return REFUSED_LENT;
     }
-    check_wishes(n, wishes)
+    check_pattern(n, pattern)
 }
 
 // The wishes, each at the index of its position.
-fn by_position(wishes: &[u8]) -> [u8; 21]
-    requires { ⌜ length (now wishes) ≤ 20 ⌝ }
-    ensures { λ r. ⌜ wishesOf (length (now (wishes .entry))) r ≡ now (wishes .entry) ⌝ }
+fn by_position(pattern: &[u8]) -> [u8; 21]
+    requires { ⌜ length (now pattern) ≤ 20 ⌝ }
+    ensures { λ r. ⌜ patternOf (length (now (pattern .entry))) r ≡ now (pattern .entry) ⌝ }
 {
     let mut w = [0u8; 21];
     let mut i = 0;
-    while i < wishes.len() {
-        w[i + 1] = wishes[i];
+    while i < pattern.len() {
+        w[i + 1] = pattern[i];
         i += 1;
     }
     w
 }
 
 // The first place of S(n,k) from a place on whose row meets the wishes, and the number of rows where none does.
-fn least_place(counts: &[u64], n: u64, k: u64, place: u64, wishes: &[u8]) -> u64
+fn least_place(counts: &[u64], n: u64, k: u64, place: u64, pattern: &[u8]) -> u64
     requires { ⌜ IsTable (now counts) ⌝ }
-    requires { ⌜ (n ≤ 20) × (place < c n k) × (length (now wishes) ≡ n) ⌝ }
-    ensures { λ r. ⌜ r ≡ leastFrom (meets (now (wishes .entry))) (S n k) place ⌝ }
+    requires { ⌜ (n ≤ 20) × (place < c n k) × (length (now pattern) ≡ n) ⌝ }
+    ensures { λ r. ⌜ r ≡ leastFrom (meets (now (pattern .entry))) (S n k) place ⌝ }
 {
-    let w = by_position(wishes);
+    let w = by_position(pattern);
     if !can_meet(n, k, w) {
         return stirling::entry(counts, n, k);
     }
@@ -303,16 +303,16 @@ fn least_place(counts: &[u64], n: u64, k: u64, place: u64, wishes: &[u8]) -> u64
 }
 
 // The first row of S(n,k) at or after a place that meets the wishes: its place, and the row itself in `out`. Refusals 1, 2, 3, 5, 6, 14; a refused call writes nothing.
-pub fn find(n: u64, k: u64, place: u64, wishes: &[u8], out: &mut [u8]) -> Found
-    ensures answer { λ r. ⌜ r ≡ findOf n k place (now (wishes .entry)) (length (now (out .entry))) ⌝ }
+pub fn find(n: u64, k: u64, place: u64, pattern: &[u8], out: &mut [u8]) -> Found
+    ensures answer { λ r. ⌜ r ≡ findOf n k place (now (pattern .entry)) (length (now (out .entry))) ⌝ }
     ensures row { λ r. ⌜ now (out .exit) ≡ writtenBy n k r (now (out .entry)) ⌝ }
 {
     let counts = stirling::table();
-    let refusal = check_asked(&counts, n, k, place, wishes, out.len());
+    let refusal = check_asked(&counts, n, k, place, pattern, out.len());
     if refusal != 0 {
         return refused(refusal);
     }
-    let found = least_place(&counts, n, k, place, wishes);
+    let found = least_place(&counts, n, k, place, pattern);
     if found == stirling::entry(&counts, n, k) {
         return refused(REFUSED_UNMET);
     }

@@ -27,27 +27,27 @@ fn print_found(found: Found, row: &[u8]) {
 }
 
 // The line of a search: `row` is as many bytes as there are wishes to write the permutation to.
-fn print_line(k: u64, place: u64, wishes: &[u8], row: &mut [u8]) {
-    let n = wishes.len() as u64;
-    let found = find::find(n, k, place, wishes, row);
+fn print_line(k: u64, place: u64, pattern: &[u8], row: &mut [u8]) {
+    let n = pattern.len() as u64;
+    let found = find::find(n, k, place, pattern, row);
     print::field(n);
     print::field(k);
     print::number(place);
     print::text(b" | ");
-    print::values(wishes);
+    print::values(pattern);
     print::text(b" | ");
     print_found(found, row);
     print::text(b"\n");
 }
 
 // The same, with space for the permutation.
-fn print_search(k: u64, place: u64, wishes: &[u8]) {
-    let n = wishes.len();
+fn print_search(k: u64, place: u64, pattern: &[u8]) {
+    let n = pattern.len();
     if 20 < n {
         return;
     }
     let mut row = [0u8; 20];
-    print_line(k, place, wishes, &mut row[..n]);
+    print_line(k, place, pattern, &mut row[..n]);
 }
 
 // The lines of all searches of a text.

@@ -14,8 +14,8 @@ use Rattle.rank.specs.Search.{readingOf, before}
 use Rattle.rank.proofs.Starts.{before-most}
 use Rattle.find.specs.Meeting.{meets}
 use Rattle.find.specs.Counting.{smaller}
-use Rattle.find.specs.Search.{wishesOf, enters, Searched}
-use Rattle.find.proofs.Wishes.{wishes-below}
+use Rattle.find.specs.Search.{patternOf, enters, Searched}
+use Rattle.find.proofs.Patterns.{pattern-below}
 use Rattle.find.proofs.Least.{First}
 use Rattle.find.proofs.Searching.{Going, begins, position-here, ends-at, passes-by, stays-out, some-below, starts-below, found, missed, searched-nothing, first-of, searched-found, searched-none}
 use Prim.Native.Nat.{ℕ, suc, _+_, _-_, _*_, _≤_, _<_}
@@ -135,12 +135,12 @@ module _ (t : ℕ) where
   left : (m : first-lts.After-smaller (calls t) (first-at t) first.Post first-Inv-loop first-μ-loop)
       → let e = at-entry (entered-in m) .args in
       let x = entered-at m .before .part-at .result .position in
-      wishesOf (e .n - 1) (m .smaller .result) ≡ smaller (e .n - 1) x (wishesOf (e .n) (e .w))
+      patternOf (e .n - 1) (m .smaller .result) ≡ smaller (e .n - 1) x (patternOf (e .n) (e .w))
   left m =
       let e = at-entry (entered-in m) .args in
       let b = entered-at m .before in
       let (lx, ux) = at-position b in
-      ap (wishesOf (e .n - 1)) (m .smaller .ensures) ∙ wishes-below (e .n) (e .w) (b .part-at .result .position) lx ux
+      ap (patternOf (e .n - 1)) (m .smaller .ensures) ∙ pattern-below (e .n) (e .w) (b .part-at .result .position) lx ux
 
   start-below : (m : first-lts.After-smaller (calls t) (first-at t) first.Post first-Inv-loop first-μ-loop)
       → let e = at-entry (entered-in m) .args in
@@ -155,13 +155,13 @@ module _ (t : ℕ) where
       → let m = f .before in
       let e = at-entry (entered-in m) .args in
       let q = entered-at m .before .part-at .result in
-      First (meets (smaller (e .n - 1) (q .position) (wishesOf (e .n) (e .w)))) (readingOf (q .backward) (e .n - 1) (q .cycles)) (e .start - entered-in m .loop .before) (f .first .result .place)
+      First (meets (smaller (e .n - 1) (q .position) (patternOf (e .n) (e .w)))) (readingOf (q .backward) (e .n - 1) (q .cycles)) (e .start - entered-in m .loop .before) (f .first .result .place)
   inner f =
       let m = f .before in
       let e = at-entry (entered-in m) .args in
       let q = entered-at m .before .part-at .result in
       subst
-      (λ (x : ℕ). First (meets (smaller (e .n - 1) (q .position) (wishesOf (e .n) (e .w)))) (readingOf (q .backward) (e .n - 1) (q .cycles)) x (f .first .result .place))
+      (λ (x : ℕ). First (meets (smaller (e .n - 1) (q .position) (patternOf (e .n) (e .w)))) (readingOf (q .backward) (e .n - 1) (q .cycles)) x (f .first .result .place))
       (m .before .start-in .ensures)
       (first-of (left m) (omega (arith, start-below m)) (f .first .ensures))
 

@@ -8,15 +8,15 @@ use borrow.Author.Tests.{eqb-true, eqb-false, not-true, not-false}
 use Rattle.perm.specs.Lists.{some}
 use Rattle.gray.specs.Order.{S}
 use Rattle.find.specs.Meeting.{meets}
-use Rattle.find.specs.Search.{wishesOf}
+use Rattle.find.specs.Search.{patternOf}
 use Rattle.find.proofs.Meeting.{granted-free, granted-same, granted-false}
-use Rattle.find.proofs.Wishes.{wishes-below}
+use Rattle.find.proofs.Patterns.{pattern-below}
 use borrow.Author.Needs.{needs}
 use Rattle.find.proofs.can_enter.Statement.{statement}
 use Rattle.find.proofs.can_enter.Tie as tie
 
-array-read-wish : tie.Need-array-read-wish
-array-read-wish c = search needs
+array-read-entry : tie.Need-array-read-entry
+array-read-entry c = search needs
 
 cast-if2 : tie.Need-cast-if2
 cast-if2 c = search needs
@@ -38,7 +38,7 @@ returns-2 c =
     let j = c .before .before in
     let a = j .before .args in
     let pre = j .before .pre in
-    let left = ap (wishesOf (a .n - 1)) (c .before .smaller .ensures) ∙ wishes-below (a .n) (a .t3) (a .part .position) (pre .2) (pre .3) in
+    let left = ap (patternOf (a .n - 1)) (c .before .smaller .ensures) ∙ pattern-below (a .n) (a .t3) (a .part .position) (pre .2) (pre .3) in
     let below = c .can-meet .ensures ∙ ap (λ (w : List ℕ). some (meets w) (S (a .n - 1) (a .part .cycles))) left in
     let here = ⊎-elim (λ w. granted-same (getD (a .t3) (a .part .position) 0) (a .n) (eqb-true _ _ (not-false _ (w .1 .left)))) (λ w. granted-free _ (a .n) (w .left)) (j .if1 .came) in
     rw here below
@@ -47,7 +47,7 @@ pub can-enter-spec : {M : Type 1} → statement M
 can-enter-spec =
     tie.close
     (tie.spec
-    array-read-wish
+    array-read-entry
     cast-if2
     returns
     sub-can-meet

@@ -2,7 +2,7 @@
 use mathlib.Core.Path.{_≡_, sym, _∙_}
 use Rattle.stirling.specs.Count.{checkPlace}
 use Rattle.stirling.proofs.Counts.{place-by-table}
-use Rattle.find.proofs.Answered.{asked-place, asked-wishes-long, asked-lent, asked-values}
+use Rattle.find.proofs.Answered.{asked-place, asked-pattern-length, asked-lent, asked-values}
 use borrow.Author.Needs.{needs}
 use Rattle.find.proofs.check_asked.Statement.{statement}
 use Rattle.find.proofs.check_asked.Tie as tie
@@ -24,30 +24,30 @@ returns : tie.Need-returns
 returns c =
     let b = c .before in
     let a = at-start b .args in
-    asked-place (a .n) (a .k) (a .place) (a .wishes .now) (a .size) (placed b) (c .if1 .taken)
+    asked-place (a .n) (a .k) (a .place) (a .pattern .now) (a .size) (placed b) (c .if1 .taken)
 
 returns-2 : tie.Need-returns-2
 returns-2 c =
     let b = c .before .before in
     let a = at-start b .args in
-    asked-wishes-long (a .n) (a .k) (a .place) (a .wishes .now) (a .size) (passed (c .before)) (c .if2 .taken)
+    asked-pattern-length (a .n) (a .k) (a .place) (a .pattern .now) (a .size) (passed (c .before)) (c .if2 .taken)
 
 returns-3 : tie.Need-returns-3
 returns-3 c =
     let b = c .before .before .before in
     let a = at-start b .args in
-    asked-lent (a .n) (a .k) (a .place) (a .wishes .now) (a .size) (passed (c .before .before)) (c .if3 .taken)
+    asked-lent (a .n) (a .k) (a .place) (a .pattern .now) (a .size) (passed (c .before .before)) (c .if3 .taken)
 
-check-wishes-requires : tie.Need-check-wishes-requires
-check-wishes-requires c κs = search needs
+check-pattern-requires : tie.Need-check-pattern-requires
+check-pattern-requires c κs = search needs
 
 returns-4 : tie.Need-returns-4
 returns-4 c =
     let b = c .before .before .before .before in
     let a = at-start b .args in
-    asked-values (a .n) (a .k) (a .place) (a .wishes .now) (a .size) (passed (c .before .before .before)) (c .before .before .if2 .left) (c .before .if3 .left) (c .check-wishes .ensures)
+    asked-values (a .n) (a .k) (a .place) (a .pattern .now) (a .size) (passed (c .before .before .before)) (c .before .before .if2 .left) (c .before .if3 .left) (c .check-pattern .ensures)
 
 pub check-asked-spec : {M : Type 1} → statement M
 check-asked-spec =
     tie.close
-    (tie.spec check-place-in-requires returns returns-2 returns-3 check-wishes-requires returns-4)
+    (tie.spec check-place-in-requires returns returns-2 returns-3 check-pattern-requires returns-4)

@@ -6,16 +6,16 @@ use mathlib.Core.Logic.{⊎-elim}
 use mathlib.Core.Bool.{Bool}
 use borrow.Author.Tests.{eq-eqb, ne-eqb}
 use Rattle.perm.specs.Lists.{one}
-use Rattle.find.proofs.Links.{Closing, closing-begins, low-wish, low-position, closing-step, closing-ends}
+use Rattle.find.proofs.Links.{Closing, closing-begins, low-value, low-position, closing-step, closing-ends}
 use borrow.Author.Needs.{needs}
 use Rattle.find.proofs.closed.Statement.{statement}
 use Rattle.find.proofs.closed.Tie as tie
 
 abbrev Inv-loop : tie.InvT-loop
-Inv-loop n wishes₀ positions₀ count₀ m₀ wishes positions count m = Closing n wishes₀ wishes positions count m
+Inv-loop n values₀ positions₀ count₀ m₀ values positions count m = Closing n values₀ values positions count m
 
 abbrev μ-loop : tie.MeasureT-loop
-μ-loop n wishes₀ positions₀ count₀ m₀ wishes positions count m = m
+μ-loop n values₀ positions₀ count₀ m₀ values positions count m = m
 
 loop-holds : tie.Need-loop-holds Inv-loop μ-loop
 loop-holds c = closing-begins (c .pre .0) (omega arith) (omega arith) (c .pre .1)
@@ -27,22 +27,22 @@ array-read-value : tie.Need-array-read-value Inv-loop μ-loop
 array-read-value c = search needs
 
 cast-if1 : tie.Need-cast-if1 Inv-loop μ-loop
-cast-if1 c = let b = c .before in omega (arith, low-wish (omega arith) (b .loop .inv))
+cast-if1 c = let b = c .before in omega (arith, low-value (omega arith) (b .loop .inv))
 
 add-count : tie.Need-add-count Inv-loop μ-loop
 add-count c = search needs
 
-cast-wishes : tie.Need-cast-wishes Inv-loop μ-loop
-cast-wishes c = let b = c .before .before in omega (arith, low-position (omega arith) (b .loop .inv))
+cast-values : tie.Need-cast-values Inv-loop μ-loop
+cast-values c = let b = c .before .before in omega (arith, low-position (omega arith) (b .loop .inv))
 
-array-write-wishes : tie.Need-array-write-wishes Inv-loop μ-loop
-array-write-wishes c = let b = c .before .before in omega (arith, low-position (omega arith) (b .loop .inv))
+array-write-values : tie.Need-array-write-values Inv-loop μ-loop
+array-write-values c = let b = c .before .before in omega (arith, low-position (omega arith) (b .loop .inv))
 
 cast-positions : tie.Need-cast-positions Inv-loop μ-loop
-cast-positions c = let b = c .before .before in omega (arith, low-wish (omega arith) (b .loop .inv))
+cast-positions c = let b = c .before .before in omega (arith, low-value (omega arith) (b .loop .inv))
 
 array-write-positions : tie.Need-array-write-positions Inv-loop μ-loop
-array-write-positions c = let b = c .before .before in omega (arith, low-wish (omega arith) (b .loop .inv))
+array-write-positions c = let b = c .before .before in omega (arith, low-value (omega arith) (b .loop .inv))
 
 sub-m : tie.Need-sub-m Inv-loop μ-loop
 sub-m c = search needs
@@ -76,8 +76,8 @@ closed-spec =
     array-read-value
     cast-if1
     add-count
-    cast-wishes
-    array-write-wishes
+    cast-values
+    array-write-values
     cast-positions
     array-write-positions
     sub-m

@@ -32,13 +32,13 @@ returns : tie.Need-returns
 returns c =
     let b = c .before .before in
     let a = at-start b .args in
-    (c .refused .ensures ∙ find-refused (a .n) (a .k) (a .place) (a .wishes .now) (length (a .out .now)) (b .check-asked .ensures) (c .before .if1 .taken), kept-by (a .n) (a .k) (a .out .now) (c .refused .ensures) (c .before .if1 .taken))
+    (c .refused .ensures ∙ find-refused (a .n) (a .k) (a .place) (a .pattern .now) (length (a .out .now)) (b .check-asked .ensures) (c .before .if1 .taken), kept-by (a .n) (a .k) (a .out .now) (c .refused .ensures) (c .before .if1 .taken))
 
 slice-aggregate-least-place : tie.Need-slice-aggregate-least-place
 slice-aggregate-least-place c = search needs
 
 -- they pass
-passed : (c : tie.Else1) → let a = at-start (c .before) .args in checkAsked (a .n) (a .k) (a .place) (a .wishes .now) (length (a .out .now)) ≡ 0
+passed : (c : tie.Else1) → let a = at-start (c .before) .args in checkAsked (a .n) (a .k) (a .place) (a .pattern .now) (length (a .out .now)) ≡ 0
 passed c = sym (c .before .check-asked .ensures) ∙ c .if1 .left
 
 least-place-requires : tie.Need-least-place-requires
@@ -46,7 +46,7 @@ least-place-requires c κs =
     let e = c .before in
     let b = e .before in
     let a = at-start b .args in
-    let (small, below, size, lent) = asked-passed (a .n) (a .k) (a .place) (a .wishes .now) (length (a .out .now)) (passed e) in
+    let (small, below, size, lent) = asked-passed (a .n) (a .k) (a .place) (a .pattern .now) (length (a .out .now)) (passed e) in
     (b .before .before .table .ensures, (small, below, size))
 
 slice-aggregate-entry : tie.Need-slice-aggregate-entry
@@ -69,11 +69,11 @@ is-count : (q : tie.After-entry) → let a = at-start (checked q .before) .args 
 is-count q =
     let b = checked q .before in
     let a = at-start b .args in
-    q .entry .ensures ∙ b .before .before .table .ensures .holds (a .n) (a .k) (asked-passed (a .n) (a .k) (a .place) (a .wishes .now) (length (a .out .now)) (passed (checked q)) .0)
+    q .entry .ensures ∙ b .before .before .table .ensures .holds (a .n) (a .k) (asked-passed (a .n) (a .k) (a .place) (a .pattern .now) (length (a .out .now)) (passed (checked q)) .0)
 
 -- whether it is one of the rows
 not-all : (q : tie.After-entry) → (searched q .least-place .result ≡ q .entry .result → ⊥)
-    → let a = at-start (checked q .before) .args in leastFrom (meets (a .wishes .now)) (S (a .n) (a .k)) (a .place) ≡ c (a .n) (a .k) → ⊥
+    → let a = at-start (checked q .before) .args in leastFrom (meets (a .pattern .now)) (S (a .n) (a .k)) (a .place) ≡ c (a .n) (a .k) → ⊥
 not-all q d e = d (searched q .least-place .ensures ∙ e ∙ sym (is-count q))
 
 returns-2 : tie.Need-returns-2
@@ -81,7 +81,7 @@ returns-2 c =
     let q = c .before .before in
     let a = at-start (checked q .before) .args in
     let all = sym (searched q .least-place .ensures) ∙ c .before .if2 .taken ∙ is-count q in
-    (c .refused2 .ensures ∙ find-unmet (a .n) (a .k) (a .place) (a .wishes .now) (length (a .out .now)) (passed (checked q)) all, kept-by (a .n) (a .k) (a .out .now) (c .refused2 .ensures) (λ z. omega arith))
+    (c .refused2 .ensures ∙ find-unmet (a .n) (a .k) (a .place) (a .pattern .now) (length (a .out .now)) (passed (checked q)) all, kept-by (a .n) (a .k) (a .out .now) (c .refused2 .ensures) (λ z. omega arith))
 
 unrank-requires : tie.Need-unrank-requires
 unrank-requires c κs = search needs
@@ -96,10 +96,10 @@ returns-3 c =
     let a = at-start (checked q .before) .args in
     let z = passed (checked q) in
     let d = not-all q (u .before .before .if2 .left) in
-    let (small, below, size, lent) = asked-passed (a .n) (a .k) (a .place) (a .wishes .now) (length (a .out .now)) z in
+    let (small, below, size, lent) = asked-passed (a .n) (a .k) (a .place) (a .pattern .now) (length (a .out .now)) z in
     let e = searched q .least-place .ensures in (
-      ap (λ (x : ℕ). record { refusal = 0; place = x }) e ∙ find-met (a .n) (a .k) (a .place) (a .wishes .now) (length (a .out .now)) z d,
-      row-written small (omega (arith, e, below-all (a .n) (a .k) (a .place) (a .wishes .now) (length (a .out .now)) z d)) lent (u .unrank .ensures),
+      ap (λ (x : ℕ). record { refusal = 0; place = x }) e ∙ find-met (a .n) (a .k) (a .place) (a .pattern .now) (length (a .out .now)) z d,
+      row-written small (omega (arith, e, below-all (a .n) (a .k) (a .place) (a .pattern .now) (length (a .out .now)) z d)) lent (u .unrank .ensures),
     )
 
 pub find-spec : {M : Type 1} → statement M

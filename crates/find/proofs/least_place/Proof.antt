@@ -6,7 +6,7 @@ use borrow.Author.Tests.{not-true, not-false}
 use Rattle.perm.specs.Lists.{some}
 use Rattle.gray.specs.Order.{S}
 use Rattle.find.specs.Meeting.{meets, leastFrom}
-use Rattle.find.specs.Search.{wishesOf}
+use Rattle.find.specs.Search.{patternOf}
 use Rattle.find.proofs.Answered.{none-least}
 use borrow.Author.Needs.{needs}
 use Rattle.find.proofs.least_place.Statement.{statement}
@@ -25,8 +25,8 @@ entry-requires c κs = search needs
 abbrev at-start : tie.After-by-position → tie.Start
 at-start c = c .before .before .before
 
-same : (c : tie.After-by-position) → let a = at-start c .args in wishesOf (a .n) (c .by-position .result) ≡ a .wishes .now
-same c = let s = at-start c in ap (λ (j : ℕ). wishesOf j (c .by-position .result)) (sym (s .pre .1 .2)) ∙ c .by-position .ensures
+same : (c : tie.After-by-position) → let a = at-start c .args in patternOf (a .n) (c .by-position .result) ≡ a .pattern .now
+same c = let s = at-start c in ap (λ (j : ℕ). patternOf j (c .by-position .result)) (sym (s .pre .1 .2)) ∙ c .by-position .ensures
 
 returns : tie.Need-returns
 returns c =
@@ -34,7 +34,7 @@ returns c =
     let b = m .before in
     let s = at-start b in
     let none = ap (λ (w : List ℕ). some (meets w) (S (s .args .n) (s .args .k))) (sym (same b)) ∙ sym (m .can-meet .ensures) ∙ not-true _ (c .before .if1 .taken) in
-    c .entry .ensures ∙ s .pre .0 .holds (s .args .n) (s .args .k) (s .pre .1 .0) ∙ none-least (meets (s .args .wishes .now)) (s .args .n) (s .args .k) (s .args .place) (s .pre .1 .1) none
+    c .entry .ensures ∙ s .pre .0 .holds (s .args .n) (s .args .k) (s .pre .1 .0) ∙ none-least (meets (s .args .pattern .now)) (s .args .n) (s .args .k) (s .args .place) (s .pre .1 .1) none
 
 first-requires : tie.Need-first-requires
 first-requires c κs =

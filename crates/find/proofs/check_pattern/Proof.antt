@@ -1,4 +1,4 @@
--- `find::check_wishes` meets its contract. The loop's invariant: all wishes above n are counted from index i on. Assumes nothing.
+-- `find::check_pattern` meets its contract. The loop's invariant: all wishes above n are counted from index i on. Assumes nothing.
 use Prim.Native.Nat.{_-_}
 use native.Mathlib.Omega.{arith}
 use mathlib.Core.Path.{_≡_, refl, sym}
@@ -9,14 +9,14 @@ use Rattle.stirling.proofs.Refusals.{refuse-applies, refuse-passes}
 use Rattle.perm.specs.Lists.{tally}
 use Rattle.perm.proofs.Search.{passed, found, exhausted}
 use borrow.Author.Needs.{needs}
-use Rattle.find.proofs.check_wishes.Statement.{statement}
-use Rattle.find.proofs.check_wishes.Tie as tie
+use Rattle.find.proofs.check_pattern.Statement.{statement}
+use Rattle.find.proofs.check_pattern.Tie as tie
 
 abbrev Inv-loop : tie.InvT-loop
-Inv-loop n wishes i₀ i = tally (ltb n) wishes ≡ tally (ltb n) (drop i wishes)
+Inv-loop n pattern i₀ i = tally (ltb n) pattern ≡ tally (ltb n) (drop i pattern)
 
 abbrev μ-loop : tie.MeasureT-loop
-μ-loop n wishes i₀ i = length wishes - i
+μ-loop n pattern i₀ i = length pattern - i
 
 loop-holds : tie.Need-loop-holds Inv-loop μ-loop
 loop-holds c = refl
@@ -30,7 +30,7 @@ cast-if1 c = omega (arith, c .shared-slice-known .given (c .before .before .loop
 returns : tie.Need-returns Inv-loop μ-loop
 returns c =
     let b = c .before .before .before in
-    let w = b .before .args .wishes .now in
+    let w = b .before .args .pattern .now in
     sym (refuse-applies _ 6 (found (ltb (b .before .args .n)) w (b .loop .i) (b .loop .inv) (omega arith) (lt-ltb _ (getD w (b .loop .i) 0) (c .if1 .taken))))
 
 add-i : tie.Need-add-i Inv-loop μ-loop
@@ -42,17 +42,17 @@ loop-less c = search needs
 loop-again : tie.Need-loop-again Inv-loop μ-loop
 loop-again c =
     let b = c .before .before .before in
-    let w = b .before .args .wishes .now in
+    let w = b .before .args .pattern .now in
     passed (ltb (b .before .args .n)) w (b .loop .i) (b .loop .inv) (omega arith) (le-ltb _ (getD w (b .loop .i) 0) (c .if1 .left))
 
 returns-2 : tie.Need-returns-2 Inv-loop μ-loop
 returns-2 c =
     let b = c .before in
-    let w = b .before .args .wishes .now in
+    let w = b .before .args .pattern .now in
     sym (refuse-passes _ 6 (exhausted (ltb (b .before .args .n)) w (b .loop .i) (b .loop .inv) (omega arith)))
 
-pub check-wishes-spec : {M : Type 1} → statement M
-check-wishes-spec =
+pub check-pattern-spec : {M : Type 1} → statement M
+check-pattern-spec =
     tie.close
     (tie.spec
     Inv-loop
