@@ -1,9 +1,9 @@
 //! Numbers, slices and offsets that nobody should hand in, in every call, with guard bytes around what is lent: the refusal is document 01's, and
-//! no other byte changes. The same for `explain` stands in `explain.rs`, and for `exchanges` in `exchanges.rs`.
+//! no other byte changes. The same for `explain` stands in `explain.rs`, and for `exchanges` in `exchanges.rs`; more for `find` stands in `find.rs`.
 
 mod reference;
 
-use osierdrum::{count, from_array, from_inversions, rank, rows, to_array, to_inversions, unrank, Refusal};
+use osierdrum::{count, find, from_array, from_inversions, rank, rows, to_array, to_inversions, unrank, Refusal};
 use reference::{damaged, short_slices, Random, Reference};
 use std::fmt::Debug;
 
@@ -102,6 +102,30 @@ fn numbers_in_rows() {
 }
 
 #[test]
+fn numbers_in_find() {
+    let reference = Reference::new();
+    let mut met = [0u32; 15];
+    let sizes = || [0, 5, 20, 21].into_iter();
+    // free, wished twice, and out of range
+    let wishes: Vec<Vec<u8>> = sizes().flat_map(|length| [0, 1, 21].map(|wish| vec![wish; length])).collect();
+    for n in NUMBERS {
+        for k in NUMBERS {
+            for place in NUMBERS {
+                for (w, size) in wishes.iter().flat_map(|w| sizes().map(move |size| (w, size))) {
+                    let refusal = same(
+                        size,
+                        |out| find(n, k, place, w, out),
+                        |out| reference.find(n, k, place, w, out),
+                    );
+                    met[usize::from(refusal)] += 1;
+                }
+            }
+        }
+    }
+    assert!([0, 1, 2, 3, 5, 6, 14].iter().all(|&refusal| met[refusal] > 0), "{met:?}");
+}
+
+#[test]
 fn offsets_in_rows() {
     let reference = Reference::new();
     for (n, k, place, m) in [(5, 2, 0, 50), (5, 2, 49, 1), (20, 10, 12345, 3), (1, 1, 0, 1), (0, 0, 0, 1)] {
@@ -148,6 +172,10 @@ fn every_short_slice() {
         same(s.len(), |out| from_array(&s, out), |out| reference.from_array(&s, out));
         same(s.len(), |out| to_inversions(&s, out), |out| reference.to_inversions(&s, out));
         same(s.len(), |out| from_inversions(&s, out), |out| reference.from_inversions(&s, out));
+        let n = s.len() as u64;
+        for (k, place) in (0..=n + 1).flat_map(|k| (0..12).map(move |place| (k, place))) {
+            same(s.len(), |out| find(n, k, place, &s, out), |out| reference.find(n, k, place, &s, out));
+        }
     }
 }
 

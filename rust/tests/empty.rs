@@ -2,8 +2,8 @@
 //! reference; the other tests compare n = 0 with the reference among the rest.
 
 use osierdrum::{
-    count, exchanges, exchanges_into, explain, explain_into, from_array, from_inversions, rank, rows, to_array, to_inversions,
-    unrank, Exchanges, Explained, Explanation, Level, Rank, Refusal,
+    count, exchanges, exchanges_into, explain, explain_into, find, from_array, from_inversions, rank, rows, to_array,
+    to_inversions, unrank, Exchanges, Explained, Explanation, Level, Rank, Refusal,
 };
 
 /// A call on a lent slice of `size` bytes, with guards: its result. No byte changes, whether it is served or refused.
@@ -95,6 +95,32 @@ fn pairs_from_nothing_to_nothing() {
         assert_eq!(lent(size, |out| exchanges_into(&[], &[0; 21], out)), Err(Refusal::Size));
         assert_eq!(lent(size, |out| exchanges_into(&[0; 21], &[], out)), Err(Refusal::Size));
         assert_eq!(lent(size, |out| exchanges_into(&[1], &[0], out)), Err(Refusal::Value));
+    }
+}
+
+#[test]
+fn search_without_positions() {
+    assert_eq!(lent(0, |out| find(0, 0, 0, &[], out)), Ok(0));
+    assert_eq!(lent(1, |out| find(0, 0, 0, &[], out)), Err(Refusal::Lent));
+    for size in [0, 1] {
+        for wishes in [&[][..], &[0], &[1]] {
+            for place in [1, 2, u64::MAX] {
+                assert_eq!(lent(size, |out| find(0, 0, place, wishes, out)), Err(Refusal::Place));
+                assert_eq!(lent(size, |out| find(0, 1, place, wishes, out)), Err(Refusal::Cycles));
+            }
+            assert_eq!(lent(size, |out| find(1, 0, 0, wishes, out)), Err(Refusal::Cycles));
+            assert_eq!(lent(size, |out| find(21, 0, 0, wishes, out)), Err(Refusal::Size));
+        }
+        // a wish is above n only where there are positions
+        for wishes in [[0], [1], [255]] {
+            assert_eq!(lent(size, |out| find(0, 0, 0, &wishes, out)), Err(Refusal::Lent));
+        }
+    }
+    assert_eq!(lent(1, |out| find(1, 1, 0, &[2], out)), Err(Refusal::Value));
+    for wish in [0, 1] {
+        let mut out = [7];
+        assert_eq!(find(1, 1, 0, &[wish], &mut out), Ok(0));
+        assert_eq!(out, [1]);
     }
 }
 

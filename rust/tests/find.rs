@@ -136,6 +136,12 @@ fn some(random: &mut Random, row: &[u8]) -> Vec<u8> {
     row.iter().map(|&value| if random.below(n) < kept { value } else { 0 }).collect()
 }
 
+/// Some of the values of any permutation.
+fn any(random: &mut Random, n: usize) -> Vec<u8> {
+    let row = shuffled(random, n);
+    some(random, &row)
+}
+
 fn wished(random: &mut Random, row: &[u8], kind: Kind) -> Vec<u8> {
     match kind {
         Kind::Some => some(random, row),
@@ -159,11 +165,14 @@ fn wished(random: &mut Random, row: &[u8], kind: Kind) -> Vec<u8> {
             (wishes[one], wishes[other]) = (row[one], row[one]);
             wishes
         }
-        Kind::Other => {
-            let other = shuffled(random, row.len());
-            some(random, &other)
-        }
+        Kind::Other => any(random, row.len()),
     }
+}
+
+/// Wishes made from any row of a list.
+fn wished_of(random: &mut Random, rows: &[Vec<u8>], kind: Kind) -> Vec<u8> {
+    let row = &rows[random.below(rows.len() as u64) as usize];
+    wished(random, row, kind)
 }
 
 #[test]
@@ -322,12 +331,11 @@ fn going_on_meets_each_once_in_order() {
     for n in 0..=6u64 {
         for k in n.min(1)..=n {
             let rows = list(n as usize, k as usize);
-            let wishes = if n <= 4 {
+            let wishes: Vec<Vec<u8>> = if n <= 4 {
                 all_wishes(n as u8)
             } else {
-                let from = |random: &mut Random| &rows[random.below(rows.len() as u64) as usize];
-                let made = KINDS.into_iter().flat_map(|kind| [kind; 40]);
-                made.map(|kind| { let row = from(&mut random); wished(&mut random, row, kind) }).collect()
+                let kinds = KINDS.into_iter().flat_map(|kind| [kind; 40]);
+                kinds.map(|kind| wished_of(&mut random, &rows, kind)).collect()
             };
             for wishes in wishes {
                 assert_eq!(going_on(n, k, &wishes), places(&rows, &wishes), "{wishes:?} in S({n},{k})");
@@ -362,8 +370,7 @@ fn met_by_as_many_as_permutations_of_the_free_positions() {
         for k in n.min(1)..=n {
             let rows = list(n, k);
             for kind in [Kind::Some, Kind::All, Kind::Cycles, Kind::Other].into_iter().flat_map(|kind| [kind; 25]) {
-                let row = &rows[random.below(rows.len() as u64) as usize];
-                let wishes = wished(&mut random, row, kind);
+                let wishes = wished_of(&mut random, &rows, kind);
                 let (free, closed) = (wishes.iter().filter(|&&wish| wish == 0).count(), closed(&wishes));
                 let right = k.checked_sub(closed).map_or(0, |left| c[free][left]);
                 let places = places(&rows, &wishes);
@@ -422,7 +429,7 @@ fn wishes_up_to_n() {
         for position in 0..usize::from(n) {
             for (wish, refused) in [(n, false), (n + 1, true), (255, true)] {
                 let (n, k) = (u64::from(n), 1 + random.below(n.into()));
-                let mut wishes = some(&mut random, &shuffled(&mut random, n as usize));
+                let mut wishes = any(&mut random, n as usize);
                 wishes[position] = wish;
                 let asked = Asked { n, k, place: random.below(reference.count(n, k).unwrap()), wishes };
                 assert_eq!(refusal(same(&reference, &asked, n as usize)) == 6, refused, "{asked:?}");
@@ -474,7 +481,7 @@ fn damaged_at_random() {
         let k = random.below(n + 2);
         let rows = reference.count(n, k).unwrap_or(1);
         let place = random.below(rows + rows / 8 + 1);
-        let mut wishes = some(&mut random, &shuffled(&mut random, n as usize));
+        let mut wishes = any(&mut random, n as usize);
         match random.below(8) {
             0 => wishes.resize(random.below(24) as usize, 0),
             1 if n > 0 => wishes[random.below(n) as usize] = random.next() as u8,

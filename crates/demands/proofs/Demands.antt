@@ -61,7 +61,7 @@ use Rattle.sequences.specs.Listed.{Made, CompleteLows}
 use Rattle.sequences.proofs.Listed.{lows-cycles, sequences-of, one-list, complete-lows, length-sequences}
 use Rattle.find.specs.Meeting.{meets}
 use Rattle.find.specs.Find.{checkAsked, checkFind, findOf}
-use Rattle.find.specs.Counting.{Sound, meeting}
+use Rattle.find.specs.Counting.{Sound, closed as closedBy, meeting}
 use Rattle.find.proofs.Counting.{counted, unsound-none}
 use Rattle.find.proofs.Results as Results
 use Rattle.find.proofs.Cases as Searches
@@ -431,6 +431,10 @@ count-met = counted
 
 pub count-unsound : (n k : ℕ) (w : List ℕ) → length w ≡ n → (Sound n w → ⊥) → tally (meets w) (S n k) ≡ 0
 count-unsound = unsound-none
+
+-- where every position has its value, the cycles that are closed are those of the permutation, counted by following
+pub closed-by-all : {n : ℕ} {s : Row} → IsPermutation n s → closedBy n s ≡ cycles s
+closed-by-all = Results.all-given
 
 -- examples
 pub find-cases : Searches.Table

@@ -35,6 +35,13 @@ static int empty_list(void) {
     }
 
     for (size_t len = 0; len <= 1; len++) {
+        struct osierdrum_Found found = osierdrum_find(0, 0, 0, &byte, 0, lent + 1, len);
+        if (found.refusal != (len == 0 ? 0 : 5) || found.place != 0) return 49;
+        found = osierdrum_find(0, 0, 0, &byte, 1, lent + 1, len);
+        if (found.refusal != 5 || found.place != 0) return 50;
+    }
+
+    for (size_t len = 0; len <= 1; len++) {
         uint8_t longer = len == 0 ? 0 : 5;
         if (osierdrum_unrank(0, 0, 0, lent + 1, len) != longer) return 25;
         if (osierdrum_unrank(0, 0, 1, lent + 1, len) != 3) return 26;
@@ -164,6 +171,36 @@ static int inversions(void) {
     return memcmp(out, (const uint8_t[]){2, 1, 1, 1, 3, 5}, 6) == 0 ? 0 : 92;
 }
 
+static int search(void) {
+    const uint8_t wishes[5] = {3, 0, 4, 0, 0}, outside[5] = {3, 0, 6, 0, 3}, twice[5] = {3, 0, 4, 0, 3}, wide[21] = {0};
+    uint8_t row[7] = {99, 99, 99, 99, 99, 99, 99};
+
+    struct osierdrum_Found found = osierdrum_find(21, 22, 50, wide, sizeof wide, row + 1, 4);
+    if (found.refusal != 1 || found.place != 0) return 101;
+    found = osierdrum_find(5, 6, 50, outside, sizeof outside, row + 1, 4);
+    if (found.refusal != 2 || found.place != 0) return 102;
+    found = osierdrum_find(5, 2, 50, outside, sizeof outside, row + 1, 4);
+    if (found.refusal != 3 || found.place != 0) return 103;
+    found = osierdrum_find(5, 2, 20, outside, sizeof outside, row + 1, 4);
+    if (found.refusal != 5 || found.place != 0) return 104;
+    found = osierdrum_find(5, 2, 20, outside, 4, row + 1, 5);
+    if (found.refusal != 5 || found.place != 0) return 105;
+    found = osierdrum_find(5, 2, 20, outside, sizeof outside, row + 1, 5);
+    if (found.refusal != 6 || found.place != 0) return 106;
+    found = osierdrum_find(5, 2, 20, twice, sizeof twice, row + 1, 5);
+    if (found.refusal != 14 || found.place != 0) return 107;
+    found = osierdrum_find(5, 2, 45, wishes, sizeof wishes, row + 1, 5);
+    if (found.refusal != 14 || found.place != 0) return 108;
+    if (memcmp(row, (const uint8_t[]){99, 99, 99, 99, 99, 99, 99}, 7) != 0) return 109;
+
+    found = osierdrum_find(5, 2, 20, wishes, sizeof wishes, row + 1, 5);
+    if (found.refusal != 0 || found.place != 38) return 110;
+    if (memcmp(row, (const uint8_t[]){99, 3, 1, 4, 2, 5, 99}, 7) != 0) return 111;
+    found = osierdrum_find(5, 2, found.place + 1, wishes, sizeof wishes, row + 1, 5);
+    if (found.refusal != 0 || found.place != 44) return 112;
+    return memcmp(row, (const uint8_t[]){99, 3, 5, 4, 1, 2, 99}, 7) == 0 ? 0 : 113;
+}
+
 int main(void) {
     struct osierdrum_Count count = osierdrum_count(5, 2);
     if (count.refusal != 0 || count.count != 50) return 1;
@@ -191,5 +228,6 @@ int main(void) {
     if (wrong == 0) wrong = exchanges();
     if (wrong == 0) wrong = fixed_points();
     if (wrong == 0) wrong = inversions();
+    if (wrong == 0) wrong = search();
     return wrong != 0 ? wrong : empty_list();
 }
