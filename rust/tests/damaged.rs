@@ -107,16 +107,13 @@ fn numbers_in_find() {
     let mut met = [0u32; 15];
     let sizes = || [0, 5, 20, 21].into_iter();
     // free, wished twice, and out of range
-    let wishes: Vec<Vec<u8>> = sizes().flat_map(|length| [0, 1, 21].map(|wish| vec![wish; length])).collect();
+    let slices: Vec<Vec<u8>> = sizes().flat_map(|length| [0, 1, 21].map(|wish| vec![wish; length])).collect();
     for n in NUMBERS {
         for k in NUMBERS {
             for place in NUMBERS {
-                for (w, size) in wishes.iter().flat_map(|w| sizes().map(move |size| (w, size))) {
-                    let refusal = same(
-                        size,
-                        |out| find(n, k, place, w, out),
-                        |out| reference.find(n, k, place, w, out),
-                    );
+                for (s, size) in slices.iter().flat_map(|s| sizes().map(move |size| (s, size))) {
+                    let refusal =
+                        same(size, |out| find(n, k, place, s, out), |out| reference.find(n, k, place, s, out));
                     met[usize::from(refusal)] += 1;
                 }
             }

@@ -111,7 +111,7 @@ fn search_without_positions() {
             assert_eq!(lent(size, |out| find(1, 0, 0, wishes, out)), Err(Refusal::Cycles));
             assert_eq!(lent(size, |out| find(21, 0, 0, wishes, out)), Err(Refusal::Size));
         }
-        // a wish is above n only where there are positions
+        // too long wishes come before one that is above n
         for wishes in [[0], [1], [255]] {
             assert_eq!(lent(size, |out| find(0, 0, 0, &wishes, out)), Err(Refusal::Lent));
         }
