@@ -4,21 +4,19 @@ use Prim.Native.Nat.{ℕ, _≤_, _<_}
 use native.Mathlib.Omega.{arith}
 use mathlib.Core.Bool.{Bool, true, false, not, _||_, true≢false}
 use mathlib.Core.List.{List, []}
-use lib.Dec.{eqb, ltb}
-use lib.ListN.{length, drop}
-use borrow.Table.Steps.{cases}
+use lib.Dec.{eqb}
+use lib.ListN.{length}
 use borrow.Author.Tests.{eqb-true, eq-eqb, ne-eqb, ltb-false, not-false}
-use Rattle.stirling.specs.Refusal.{refuse, _then_, unless}
+use Rattle.stirling.specs.Refusal.{_then_, unless}
 use Rattle.stirling.specs.Count.{c, checkPlace}
-use Rattle.stirling.proofs.Refusals.{refuse-applies, refuse-passes, refuse-passed, then-passes, then-refuses, then-stops, then-passed, unless-passes, unless-refuses}
+use Rattle.stirling.proofs.Refusals.{refuse-passed, then-passes, then-stops, then-passed, unless-refuses}
 use Rattle.stirling.proofs.Counts.{place-passes, place-passed}
 use Rattle.perm.specs.Lists.{tally, some}
-use Rattle.perm.specs.Checks.{checkLent}
 use Rattle.perm.proofs.Tally.{none-passes}
 use Rattle.gray.specs.Order.{Row, S}
 use Rattle.gray.specs.Listing.{rowAt}
 use Rattle.gray.proofs.Once.{length-S}
-use Rattle.rank.specs.Place.{checkUnrank, Unranked}
+use Rattle.rank.specs.Place.{Unranked}
 use Rattle.find.specs.declared.Found.{Found}
 use Rattle.find.specs.Meeting.{meets, leastFrom}
 use Rattle.find.specs.Find.{checkLengths, checkPattern, checkAsked, checkMet, checkFind, findOf, writtenBy}

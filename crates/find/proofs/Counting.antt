@@ -7,9 +7,9 @@ use native.Mathlib.Omega.{arith}
 use native.Mathlib.Decide.{ℕ-discrete}
 use mathlib.Core.Bool.{Bool, true, false, cond, _&&_}
 use mathlib.Core.List.{List, [], _∷_}
-use lib.Dec.{eqb, leb, ltb}
+use lib.Dec.{eqb, leb}
 use lib.ListN.{length, getD, take}
-use lib.Seq.{getD-take, set-getD}
+use lib.Seq.{set-getD}
 use borrow.Table.Steps.{cases}
 use borrow.Author.Tests.{eqb-true, eqb-false, eq-eqb, ne-eqb, leb-true, leb-false, le-leb, lt-leb}
 use Rattle.stirling.specs.Count.{c}
@@ -19,7 +19,7 @@ use Rattle.perm.specs.Lists.{one, tally, range}
 use Rattle.perm.specs.Permutation.{IsPermutation, at, put, extend, insert}
 use Rattle.perm.specs.Array.{position}
 use Rattle.perm.proofs.Tally.{refuted, none-passes, some-passes}
-use Rattle.perm.proofs.Values.{in-range, injective, onto, at-suc}
+use Rattle.perm.proofs.Values.{injective, onto, at-suc}
 use Rattle.perm.proofs.ArrayOf.{position-first}
 use Rattle.gray.specs.Order.{Row, S}
 use Rattle.gray.specs.Listing.{rowAt}

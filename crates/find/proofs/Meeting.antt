@@ -1,18 +1,17 @@
 -- Wishes are met where each is granted; and what a permutation that meets them says of them. Assumes nothing.
 use mathlib.Core.Path.{_≡_, refl, sym, ap, _∙_}
-use Prim.Native.Nat.{ℕ, suc, _+_, _-_, _≤_, _<_}
+use Prim.Native.Nat.{ℕ, _-_, _≤_}
 use native.Mathlib.Omega.{arith}
 use native.Mathlib.Decide.{ℕ-discrete}
-use mathlib.Core.Bool.{Bool, true, false, not, _&&_, true≢false}
+use mathlib.Core.Bool.{Bool, true, false, not, _&&_}
 use mathlib.Core.List.{List}
-use lib.Dec.{eqb, ltb}
-use lib.ListN.{length, take}
+use lib.Dec.{eqb}
+use lib.ListN.{length}
 use borrow.Table.Steps.{cases}
 use borrow.Author.Tests.{eqb-true, eq-eqb, ne-eqb, le-ltb, ltb-false, not-true, not-false}
-use Rattle.stirling.proofs.Refusals.{and-true}
 use Rattle.perm.specs.Lists.{tally, positions}
 use Rattle.perm.specs.Permutation.{IsPermutation, at}
-use Rattle.perm.proofs.Tally.{range-none-passes, range-tally-none, refuted}
+use Rattle.perm.proofs.Tally.{range-none-passes, range-tally-none}
 use Rattle.perm.proofs.Values.{in-range, injective}
 use Rattle.gray.specs.Order.{Row}
 use Rattle.find.specs.Meeting.{granted, meets}

@@ -1,18 +1,16 @@
 -- The positions by wish, one position after another. Assumes nothing.
 use mathlib.Core.Path.{_≡_, refl, sym, ap, _∙_}
-use Prim.Native.Nat.{ℕ, zero, suc, _+_, _-_, _≤_, _<_}
+use Prim.Native.Nat.{ℕ, suc, _+_, _-_, _≤_, _<_}
 use native.Mathlib.Omega.{arith}
-use native.Mathlib.Numerals.{add-one}
 use native.Mathlib.Decide.{ℕ-discrete}
 use mathlib.Core.Bool.{Bool, true, false, not, cond, _||_, true≢false, false≢true}
-use mathlib.Core.List.{List, [], _∷_, _++_}
+use mathlib.Core.List.{List, [], _∷_}
 use lib.Dec.{eqb, ltb}
-use lib.ListN.{length, getD, set, take, drop, replicate, length-set, length-drop, getD-replicate}
+use lib.ListN.{length, getD, set, drop, replicate, length-set, length-drop, getD-replicate}
 use lib.Seq.{take-suc, getD-drop, getD-set-same, getD-set-other}
 use borrow.Table.Steps.{cases}
-use borrow.Author.Tests.{eqb-true, eqb-false, eq-eqb, ne-eqb, ltb-true, ltb-false, not-true, not-false}
+use borrow.Author.Tests.{eqb-true, eqb-false, eq-eqb, ne-eqb, ltb-true, ltb-false}
 use Rattle.perm.specs.Lists.{one, tally}
-use Rattle.perm.specs.Permutation.{at}
 use Rattle.perm.proofs.Tally.{tally-append}
 use Rattle.find.specs.declared.ByValue.{ByValue}
 use Rattle.find.specs.Counting.{Sound, free}

@@ -9,9 +9,9 @@ use lib.Dec.{eqb, ltb, leb}
 use lib.ListN.{length, getD, replicate, drop, length-replicate, getD-replicate}
 use borrow.Table.Steps.{cases}
 use borrow.Author.Tests.{ne-eqb, leb-true, ltb-true, ltb-false, le-ltb, not-false}
-use Rattle.stirling.specs.Refusal.{refuse, _then_, unless}
+use Rattle.stirling.specs.Refusal.{refuse, _then_}
 use Rattle.stirling.specs.Count.{c, checkSize, cyclesTaken, checkCycles, checkPlace}
-use Rattle.stirling.proofs.Refusals.{refuse-passed, refuse-passes, then-passes, then-refuses, then-passed}
+use Rattle.stirling.proofs.Refusals.{refuse-passed, refuse-passes, then-passed}
 use Rattle.stirling.proofs.Counts.{above, place-passed}
 use Rattle.perm.specs.Lists.{tally, some}
 use Rattle.perm.specs.Permutation.{IsPermutation, at}
@@ -24,7 +24,7 @@ use Rattle.gray.proofs.Once.{length-S, complete}
 use Rattle.find.specs.declared.Found.{Found}
 use Rattle.find.specs.Meeting.{granted, meets, leastFrom}
 use Rattle.find.specs.Find.{checkLengths, checkPattern, checkAsked, checkMet, checkFind, findOf}
-use Rattle.find.specs.Counting.{Sound, free, closed}
+use Rattle.find.specs.Counting.{free, closed}
 use Rattle.find.proofs.Counting.{counted}
 use Rattle.find.proofs.Meeting.{granted-free, granted-same, granted-true, meets-holds, meets-at, met-sound}
 use Rattle.find.proofs.Least.{First, least-first, first-least, first-some, first-none}

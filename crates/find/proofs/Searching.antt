@@ -3,9 +3,8 @@ use mathlib.Core.Path.{_≡_, refl, sym, ap, subst, _∙_}
 use mathlib.Core.Logic.{_⊎_, inl, inr, ⊎-elim}
 use Prim.Native.Nat.{ℕ, zero, suc, _+_, _-_, _*_, _≤_, _<_}
 use native.Mathlib.Omega.{arith}
-use native.Mathlib.Numerals.{add-one}
-use mathlib.Core.Bool.{Bool, true, false, not, cond, _&&_, Bool·beq, true≢false}
-use mathlib.Core.List.{List, [], reverse}
+use mathlib.Core.Bool.{Bool, true, false, not, _&&_, Bool·beq, true≢false}
+use mathlib.Core.List.{List, []}
 use lib.Dec.{ltb}
 use lib.ListN.{length, getD, length-reverse}
 use borrow.Table.Steps.{cases}
@@ -13,10 +12,8 @@ use borrow.Author.Tests.{ltb-true, ltb-false}
 use Rattle.stirling.specs.Count.{c}
 use Rattle.stirling.proofs.Refusals.{and-true}
 use Rattle.perm.specs.Lists.{tally, some}
-use Rattle.perm.specs.Permutation.{at}
 use Rattle.perm.proofs.Tally.{tally-reverse, none-passes}
 use Rattle.gray.specs.declared.Block.{Block}
-use Rattle.gray.specs.declared.Block.the-variants.{Extend as E}
 use Rattle.gray.specs.Order.{Row, S, letter}
 use Rattle.gray.specs.Blocks.{blocks, blocksOf, positionOf}
 use Rattle.gray.specs.Listing.{rowAt}
@@ -24,7 +21,7 @@ use Rattle.gray.proofs.Indexed.{block}
 use Rattle.gray.proofs.InPlace.{in-place}
 use Rattle.gray.proofs.Once.{length-S}
 use Rattle.rank.specs.Ranking.{PlaceIn}
-use Rattle.rank.specs.Search.{readingOf, grown, cyclesOf, backwardOf, turned, sizeOf, blocksRead, before, numberRead}
+use Rattle.rank.specs.Search.{readingOf, grown, cyclesOf, backwardOf, turned, blocksRead, before, numberRead}
 use Rattle.rank.proofs.Reversed.{row-size}
 use Rattle.rank.proofs.Starts.{in-range, before-none, before-suc, before-all, before-most, number-inside, number-back, block-read}
 use Rattle.rank.proofs.Around.{placed-in}

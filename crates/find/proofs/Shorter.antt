@@ -1,16 +1,15 @@
 -- Wishes once value m + 1 stands at a position: what is left of them, and that a row meets them just if its shorter one meets what is left. Assumes nothing.
 use mathlib.Core.Path.{_≡_, refl, sym, ap, _∙_}
-use Prim.Native.Nat.{ℕ, suc, _+_, _-_, _≤_, _<_}
+use Prim.Native.Nat.{ℕ, suc, _+_, _-_, _≤_}
 use native.Mathlib.Omega.{arith}
 use native.Mathlib.Decide.{ℕ-discrete}
-use mathlib.Core.Bool.{Bool, true, false, _&&_}
+use mathlib.Core.Bool.{Bool, true, _&&_}
 use mathlib.Core.List.{List, [], _∷_, _++_}
-use lib.Dec.{eqb}
 use lib.ListN.{length, getD, take, length-set, length-append}
 use lib.Seq.{length-take-le, take-length, take-suc, getD-take}
 use Rattle.stirling.proofs.Refusals.{and-true}
 use Rattle.perm.specs.Lists.{one, tally}
-use Rattle.perm.specs.Permutation.{IsPermutation, at, put, exchange, extend}
+use Rattle.perm.specs.Permutation.{at, put, extend}
 use Rattle.perm.proofs.Tally.{tally-append, tally-set}
 use Rattle.perm.proofs.Exchange.{at-put-same, at-put-other, at-exchange-left, at-exchange-right, at-exchange-other}
 use Rattle.perm.proofs.Split.{at-extend-low, at-extend-top}

@@ -1,10 +1,10 @@
 -- How the first row is found, going down the blocks. Only private contracts cite these. These are definitions; nothing is assumed.
 use mathlib.Core.Path.{_≡_}
-use Prim.Native.Nat.{ℕ, suc, _+_, _-_, _*_, _≤_, _<_}
+use Prim.Native.Nat.{ℕ, _+_, _-_, _*_, _≤_, _<_}
 use mathlib.Core.Bool.{Bool, true, false, not, cond, _||_, _&&_}
 use mathlib.Core.List.{List}
 use lib.Dec.{eqb, ltb}
-use lib.ListN.{length, getD, set, take, drop}
+use lib.ListN.{getD, set, take, drop}
 use Rattle.stirling.specs.Count.{c}
 use Rattle.perm.specs.Lists.{some}
 use Rattle.gray.specs.declared.Block.the-variants.{Extend as E}

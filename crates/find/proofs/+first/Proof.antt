@@ -1,11 +1,10 @@
 -- The proof of the cycle of calls {first}: the measure is n, which falls by one from a list to the one below. The loop's invariant is `Going`, and its measure the number of blocks
 -- left. Assumes nothing.
 use native.Mathlib.Omega.{arith}
-use native.Mathlib.Numerals.{add-one}
 use mathlib.Core.Path.{_≡_, sym, ap, subst, _∙_}
 use mathlib.Core.Bool.{true}
 use mathlib.Core.Logic.{⊎-elim}
-use lib.ListN.{length, getD, set}
+use lib.ListN.{length}
 use Rattle.stirling.specs.Count.{c}
 use Rattle.stirling.proofs.Counts.{fits}
 use Rattle.gray.specs.Blocks.{blocks}
@@ -18,7 +17,7 @@ use Rattle.find.specs.Search.{patternOf, enters, Searched}
 use Rattle.find.proofs.Patterns.{pattern-below}
 use Rattle.find.proofs.Least.{First}
 use Rattle.find.proofs.Searching.{Going, begins, position-here, ends-at, passes-by, stays-out, some-below, starts-below, found, missed, searched-nothing, first-of, searched-found, searched-none}
-use Prim.Native.Nat.{ℕ, suc, _+_, _-_, _*_, _≤_, _<_}
+use Prim.Native.Nat.{ℕ, suc, _+_, _-_, _≤_, _<_}
 use borrow.Fn.Kinds.{In}
 use borrow.Fn.PlainCycle.{Measures, is, falls, and}
 use Rattle.find.proofs.first.Reads as first

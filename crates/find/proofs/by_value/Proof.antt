@@ -1,7 +1,6 @@
 -- `find::by_value` meets its contract. The loop's invariant: the positions below i are noted. Assumes nothing.
 use Prim.Native.Nat.{_+_, _-_, _≤_}
 use native.Mathlib.Omega.{arith}
-use mathlib.Core.Path.{_≡_}
 use Rattle.find.proofs.Noting.{Seen, seen-none, note-next, all-seen}
 use borrow.Author.Needs.{needs}
 use Rattle.find.proofs.by_value.Statement.{statement}

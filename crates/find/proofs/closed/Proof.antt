@@ -1,5 +1,5 @@
 -- `find::closed` meets its contract. The loop's invariant: the cycles counted, and those that the wishes of the first m positions close, are all. Assumes nothing.
-use Prim.Native.Nat.{_+_, _-_, _≤_}
+use Prim.Native.Nat.{_+_, _-_}
 use native.Mathlib.Omega.{arith}
 use mathlib.Core.Path.{_≡_, sym, ap, _∙_}
 use mathlib.Core.Logic.{⊎-elim}
