@@ -28,9 +28,9 @@ fn line(name: &str, n: u64, ours: f64, theirs: f64) {
     println!("{name:<15} {n:>2} {ours:>12.1} {theirs:>12.1} {:>7.2}", ours / theirs);
 }
 
-/// A row with some of its positions freed, each with a chance of `freed` in 20.
-fn freed(random: &mut Random, row: &[u8], freed: u64) -> Vec<u8> {
-    row.iter().map(|&value| if random.below(20) < freed { 0 } else { value }).collect()
+/// A row with positions freed at random, about as many of twenty.
+fn freed(random: &mut Random, row: &[u8], of_twenty: u64) -> Vec<u8> {
+    row.iter().map(|&value| if random.below(20) < of_twenty { 0 } else { value }).collect()
 }
 
 /// A search at n = 20.
@@ -42,7 +42,7 @@ struct Search {
 }
 
 impl Search {
-    /// The least time of many runs, in nanoseconds; no more of them once it is no longer than a time that is known.
+    /// The least time of many runs, so that what else the machine does is not counted; no more runs once it is not above a time that is known.
     fn nanoseconds(&self, known: f64) -> f64 {
         let mut out = [0; 20];
         let mut least = f64::INFINITY;
@@ -56,123 +56,116 @@ impl Search {
         }
         least
     }
+
+    /// A search near this one: another wish, another k, or another place, such as the one after some row that meets the wishes.
+    fn changed(&self, random: &mut Random) -> Search {
+        let Search { mut k, mut place, mut wishes } = self.clone();
+        let (one, other) = (random.below(20) as usize, random.below(20) as usize);
+        match random.below(5) {
+            0 => wishes[one] = 0,
+            1 => wishes[one] = other as u8 + 1,
+            2 => wishes.swap(one, other),
+            3 => k = one as u64 + 1,
+            _ => {}
+        }
+        let rows = osierdrum::count(20, k).expect("1 to 20");
+        let from = random.below(rows);
+        match random.below(3) {
+            0 => place = from,
+            1 => place = osierdrum::find(20, k, from, &wishes, &mut [0; 20]).map_or(place, |met| met + 1),
+            _ => {}
+        }
+        Search { k, place: place % rows, wishes }
+    }
 }
 
-/// The slowest search so far, with its time.
-struct Worst(f64, Search);
+/// The slowest of many searches, and its time.
+struct Worst {
+    search: Search,
+    nanoseconds: f64,
+}
 
 impl Worst {
     fn none() -> Worst {
-        Worst(0.0, Search { k: 1, place: 0, wishes: vec![0; 20] })
+        Worst { search: Search { k: 1, place: 0, wishes: vec![0; 20] }, nanoseconds: 0.0 }
     }
 
-    fn try_one(&mut self, search: Search) {
-        let time = search.nanoseconds(self.0);
-        if time > self.0 {
-            *self = Worst(time, search);
+    fn add(&mut self, search: Search) {
+        let nanoseconds = search.nanoseconds(self.nanoseconds);
+        if nanoseconds > self.nanoseconds {
+            *self = Worst { search, nanoseconds };
         }
     }
 
-    fn line(&self, kind: &str) {
-        println!("{kind:<34} {:>2} {:>2} {:>8.1}", 20, self.1.k, self.0 / 1000.0);
+    fn line(&self, name: &str) {
+        println!("{name:<40} {:>2} {:>2} {:>6.1}", 20, self.search.k, self.nanoseconds / 1000.0);
     }
 }
 
-/// Wishes from a row and a number that counts them.
+/// Makes wishes from a row, by turns.
 type Make = fn(&mut Random, &[u8], usize) -> Vec<u8>;
 
-const KINDS: [(&str, Make); 11] = [
+const KINDS: [(&str, Make); 9] = [
     ("none", |_, _, _| vec![0; 20]),
-    ("any value at one position", |_, _, i| {
+    ("each value at each position alone", |_, _, turn| {
         let mut wishes = vec![0; 20];
-        wishes[i % 20] = (i / 20 % 20) as u8 + 1;
+        wishes[turn % 20] = (turn / 20 % 20) as u8 + 1;
         wishes
     }),
-    ("all of a row", |_, row, _| row.to_vec()),
-    ("all of a row but one", |_, row, i| {
-        let mut wishes = row.to_vec();
-        wishes[i % 20] = 0;
-        wishes
-    }),
-    ("some of a row", |random, row, i| freed(random, row, i as u64 % 20)),
-    ("some of what a row moves", |random, row, i| {
-        let moved: Vec<u8> = (1..).zip(row).map(|(position, &value)| if value == position { 0 } else { value }).collect();
-        freed(random, &moved, i as u64 % 20)
-    }),
-    ("some of a row, 20 at any position", |random, row, i| {
+    ("value 20 at each position, half a row", |random, row, turn| {
         let mut wishes = freed(random, row, 10);
         wishes.iter_mut().filter(|wish| **wish == 20).for_each(|wish| *wish = 0);
-        wishes[i % 20] = 20;
+        wishes[turn % 20] = 20;
         wishes
     }),
-    ("some of any permutation", |random, _, i| {
+    ("a whole row", |_, row, _| row.to_vec()),
+    ("some of a row", |random, row, turn| freed(random, row, turn as u64 % 20)),
+    ("some values of a row that are not fixed", |random, row, turn| {
+        let moved = |(position, &value)| if value == position { 0 } else { value };
+        freed(random, &(1..).zip(row).map(moved).collect::<Vec<u8>>(), turn as u64 % 20)
+    }),
+    ("some of any permutation", |random, _, turn| {
         let other = shuffled(random, 20);
-        freed(random, &other, i as u64 % 20)
+        freed(random, &other, turn as u64 % 20)
     }),
-    ("one path through all positions", |random, _, _| {
-        let order = shuffled(random, 20);
+    ("some fixed points", |random, _, turn| freed(random, &(1..=20).collect::<Vec<u8>>(), turn as u64 % 20)),
+    ("a path through all positions", |random, _, _| {
         let mut wishes = vec![0; 20];
-        order.windows(2).for_each(|two| wishes[usize::from(two[0]) - 1] = two[1]);
-        wishes
-    }),
-    ("some positions as they are", |random, _, i| {
-        let identity: Vec<u8> = (1..=20).collect();
-        freed(random, &identity, i as u64 % 20)
-    }),
-    ("one value twice", |random, row, i| {
-        let mut wishes = freed(random, row, 10);
-        (wishes[i % 20], wishes[(i + 7) % 20]) = (20, 20);
+        shuffled(random, 20).windows(2).for_each(|two| wishes[usize::from(two[0]) - 1] = two[1]);
         wishes
     }),
 ];
 
-/// The worst time of one call of `find`, by the kind of the wishes.
+/// The worst time of one search, for each kind of wishes over every k, from places at, beside and far from the row that the wishes are made from; and
+/// then what the worst of all comes to when it is changed again and again.
 fn worst_search() {
-    println!("\n{:<34} {:>2} {:>2} {:>8}", "find: wishes", "n", "k", "worst µs");
+    println!("\n{:<40} {:>2} {:>2} {:>6}", "find: wishes", "n", "k", "µs");
     let mut random = Random(20);
     let mut worst = Worst::none();
-    for (kind, make) in KINDS {
+    for (name, make) in KINDS {
         let mut of_kind = Worst::none();
         for k in 1..=20 {
             let rows = osierdrum::count(20, k).expect("1 to 20");
-            for i in 0..400 {
+            for turn in 0..400 {
                 let from = random.below(rows);
                 let mut row = [0; 20];
                 osierdrum::unrank(20, k, from, &mut row).expect("a place of the list");
-                let wishes = make(&mut random, &row, i);
+                let wishes = make(&mut random, &row, turn);
                 for place in [0, from, (from + 1) % rows, random.below(rows), rows - 1] {
-                    of_kind.try_one(Search { k, place, wishes: wishes.clone() });
+                    of_kind.add(Search { k, place, wishes: wishes.clone() });
                 }
             }
         }
-        of_kind.line(kind);
-        if of_kind.0 > worst.0 {
+        of_kind.line(name);
+        if of_kind.nanoseconds > worst.nanoseconds {
             worst = of_kind;
         }
     }
     for _ in 0..50_000 {
-        let mut search = worst.1.clone();
-        let (one, other) = (random.below(20) as usize, random.below(20) as usize);
-        match random.below(5) {
-            0 => search.wishes[one] = 0,
-            1 => search.wishes[one] = other as u8 + 1,
-            2 => search.wishes.swap(one, other),
-            3 => search.k = one as u64 + 1,
-            _ => {}
-        }
-        let rows = osierdrum::count(20, search.k).expect("1 to 20");
-        search.place = match random.below(4) {
-            0 => random.below(rows),
-            1 => random.below(search.place % rows + 1),
-            // the first that meets the wishes, and the place after
-            2 => osierdrum::find(20, search.k, random.below(rows), &search.wishes, &mut [0; 20]).map_or(0, |found| (found + 1) % rows),
-            _ => search.place % rows,
-        };
-        worst.try_one(search);
+        worst.add(worst.search.changed(&mut random));
     }
-    worst.line("the worst, changed while it is worse");
-    let Worst(_, Search { place, wishes, .. }) = worst;
-    println!("which is from place {place} with the wishes {wishes:?}");
+    worst.line("the worst, changed for the worse");
+    println!("which is {:?} from place {}", worst.search.wishes, worst.search.place);
 }
 
 fn main() {
@@ -244,8 +237,8 @@ fn main() {
 
         let wishes: Vec<Vec<u8>> = (0..PLACES).map(|i| freed(&mut random, &made[(i + 1) % PLACES], 10)).collect();
         let wish = |i: usize| black_box(&wishes[i]);
-        let ours = nanoseconds(|i| drop(black_box(osierdrum::find(n, k, black_box(places[i]), wish(i), &mut out))));
-        let theirs = nanoseconds(|i| drop(black_box(reference.find(n, k, black_box(places[i]), wish(i), &mut out))));
+        let ours = nanoseconds(|i| _ = black_box(osierdrum::find(n, k, black_box(places[i]), wish(i), &mut out)));
+        let theirs = nanoseconds(|i| _ = black_box(reference.find(n, k, black_box(places[i]), wish(i), &mut out)));
         line("find", n, ours, theirs);
     }
     worst_search();

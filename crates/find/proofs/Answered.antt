@@ -17,22 +17,11 @@ use Rattle.gray.specs.Order.{Row, S}
 use Rattle.gray.specs.Listing.{rowAt}
 use Rattle.gray.proofs.Once.{length-S}
 use Rattle.rank.specs.Place.{Unranked}
+use Rattle.rank.proofs.RowChecks.{neither, either}
 use Rattle.find.specs.declared.Found.{Found}
 use Rattle.find.specs.Meeting.{meets, leastFrom}
 use Rattle.find.specs.Find.{checkLengths, checkPattern, checkAsked, checkMet, checkFind, findOf, writtenBy}
 use Rattle.find.proofs.Least.{First, least-first, first-least, first-some, first-none}
-
--- a test that is one of two
-first-of-two : (a b : Bool) → a ≡ true → (a || b) ≡ true
-first-of-two a b e = rw e
-
-second-of-two : (a b : Bool) → b ≡ true → (a || b) ≡ true
-second-of-two true b e = refl
-second-of-two false b e = e
-
-neither : (a b : Bool) → (a || b) ≡ false → (a ≡ false) × (b ≡ false)
-neither true b e = absurd (true≢false e)
-neither false b e = (refl, e)
 
 -- the checks of what is asked, one after another
 module _ (n k place : ℕ) (w : List ℕ) (size : ℕ) where
@@ -44,10 +33,10 @@ module _ (n k place : ℕ) (w : List ℕ) (size : ℕ) where
   lengths-refused e t = rw (e, t)
 
   pub asked-pattern-length : checkPlace n k place ≡ 0 → (length w ≡ n → ⊥) → 5 ≡ checkAsked n k place w size
-  asked-pattern-length e d = lengths-refused e (first-of-two _ (not (eqb size n)) (ap not (ne-eqb (length w) n d)))
+  asked-pattern-length e d = lengths-refused e (either (not (eqb (length w) n)) (not (eqb size n)) (λ f. absurd (true≢false (sym (ap not (ne-eqb (length w) n d)) ∙ f))))
 
   pub asked-lent : checkPlace n k place ≡ 0 → (size ≡ n → ⊥) → 5 ≡ checkAsked n k place w size
-  asked-lent e d = lengths-refused e (second-of-two (not (eqb (length w) n)) _ (ap not (ne-eqb size n d)))
+  asked-lent e d = lengths-refused e (either (not (eqb (length w) n)) (not (eqb size n)) (λ _. ap not (ne-eqb size n d)))
 
   pub asked-values : {r : ℕ} → checkPlace n k place ≡ 0 → length w ≡ n → size ≡ n → r ≡ checkPattern n w → r ≡ checkAsked n k place w size
   asked-values e z s q = rw (e, eq-eqb (length w) n z, eq-eqb size n s) q

@@ -23,6 +23,7 @@ use Rattle.perm.proofs.Values.{injective, onto, at-suc}
 use Rattle.perm.proofs.ArrayOf.{position-first}
 use Rattle.gray.specs.Order.{Row, S}
 use Rattle.gray.specs.Listing.{rowAt}
+use Rattle.gray.proofs.Same.{iff-equal}
 use Rattle.gray.proofs.Joined.{S-zero}
 use Rattle.gray.proofs.Sum.{sum, sum-zero, sum-one}
 use Rattle.gray.proofs.Counting.{tally-S, tally-empty}
@@ -30,7 +31,7 @@ use Rattle.gray.proofs.Once.{complete, tally-agree}
 use Rattle.rank.proofs.Grown.{grown-insert, grown-extend}
 use Rattle.find.specs.Meeting.{granted, meets}
 use Rattle.find.specs.Counting.{Sound, smaller, free, closed, meeting}
-use Rattle.find.proofs.Meeting.{granted-free, granted-same, granted-true, granted-false, agree, both-true, meets-holds, meets-at, met-sound}
+use Rattle.find.proofs.Meeting.{granted-free, granted-same, granted-true, granted-false, both-true, meets-holds, meets-at, met-sound}
 use Rattle.find.proofs.Shorter.{length-smaller, smaller-here, smaller-other, tally-smaller, smaller-sound, meets-grown}
 use Rattle.find.proofs.Sums.{tally-and, sum-cong, sum-tally, sum-zeros}
 
@@ -278,7 +279,7 @@ module _ (m : ℕ) (shorter : (k : ℕ) (w : List ℕ) → Sound m w → tally (
           let (y, ly, hy, ey) = onto p v (omega arith) low in
           sum-one _ m y ly hy
           (λ j lj hj g. ap one (splits γ p j lj hj ∙ other γ p j lj hj (λ f. g (injective p y j ly hy lj hj (ey ∙ sym f)))))
-          ∙ ap one (splits γ p y ly hy ∙ agree (granted (at w y) n && meets (smaller m y w) γ) (meets u γ) (to-front γ y ly hy) (from-front γ y ly hy ey))
+          ∙ ap one (splits γ p y ly hy ∙ iff-equal (granted (at w y) n && meets (smaller m y w) γ) (meets u γ) (to-front γ y ly hy) (from-front γ y ly hy ey))
         where
           splits : (γ : Row) → IsPermutation m γ → (i : ℕ) → 1 ≤ i → i ≤ m
               → meets w (insert n i γ) ≡ (granted (at w i) n && meets (smaller m i w) γ)

@@ -3,7 +3,6 @@ use mathlib.Core.Path.{_≡_, sym, ap, _∙_}
 use Prim.Native.Nat.{ℕ, zero, suc, _+_, _-_, _≤_, _<_}
 use native.Mathlib.Omega.{arith}
 use native.Mathlib.Decide.{ℕ-discrete}
-use mathlib.Core.Bool.{Bool, true, false}
 use mathlib.Core.List.{List}
 use lib.Dec.{eqb}
 use lib.ListN.{length, getD, set, length-set}
@@ -11,6 +10,7 @@ use lib.Seq.{getD-set-same, getD-set-other, set-getD}
 use Rattle.perm.specs.Lists.{one}
 use Rattle.perm.specs.Permutation.{at}
 use Rattle.perm.specs.Array.{position}
+use Rattle.perm.proofs.Search.{one-bound}
 use Rattle.find.specs.Counting.{Sound, smaller, closed}
 use Rattle.find.specs.Search.{patternOf, Points, Linked}
 use Rattle.find.proofs.Counting.{wanted-at, wanted-nowhere}
@@ -125,12 +125,8 @@ closing-next {n} {m} {w₀} {w} {p} {count} {more} c e =
       sizes = (length-set w (getD p (suc m) 0) v ∙ zw, length-set p v (getD p (suc m) 0) ∙ zp);
       linked = unlinked m w p (omega arith) (omega arith) (c .linked);
       counted = omega (arith, c .counted, unlinked-closed m w p (omega arith) (c .linked));
-      few = omega (arith, c .few, at-most (eqb v (suc m)));
+      few = omega (arith, c .few, one-bound (eqb v (suc m)));
     }
-  where
-    at-most : (b : Bool) → one b ≤ 1
-    at-most true = omega arith
-    at-most false = omega arith
 
 -- a wish and a position are small
 points-low : (n : ℕ) (w p : List ℕ) → 1 ≤ n → Points n w p → getD w n 0 ≤ n

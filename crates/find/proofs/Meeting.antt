@@ -1,5 +1,5 @@
 -- Wishes are met where each is granted; and what a permutation that meets them says of them. Assumes nothing.
-use mathlib.Core.Path.{_≡_, refl, sym, ap, _∙_}
+use mathlib.Core.Path.{_≡_, sym, ap, _∙_}
 use Prim.Native.Nat.{ℕ, _-_, _≤_}
 use native.Mathlib.Omega.{arith}
 use native.Mathlib.Decide.{ℕ-discrete}
@@ -33,13 +33,7 @@ granted-true entry value e d = eqb-true entry value (rw (ne-eqb entry 0 d) at e)
 pub granted-false : (entry value : ℕ) → (entry ≡ 0 → ⊥) → (entry ≡ value → ⊥) → granted entry value ≡ false
 granted-false entry value d f = rw (ne-eqb entry 0 d, ne-eqb entry value f)
 
--- two tests that pass alike are one
-pub agree : (a b : Bool) → (a ≡ true → b ≡ true) → (b ≡ true → a ≡ true) → a ≡ b
-agree true true f g = refl
-agree true false f g = sym (f refl)
-agree false true f g = g refl
-agree false false f g = refl
-
+-- two tests that pass, together
 pub both-true : (a b : Bool) → a ≡ true → b ≡ true → a && b ≡ true
 both-true a b e f = rw (e, f)
 

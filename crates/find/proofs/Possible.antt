@@ -10,9 +10,10 @@ use borrow.Table.Steps.{cases}
 use borrow.Author.Tests.{eqb-true, eqb-false, leb-true, le-leb}
 use Rattle.stirling.specs.Count.{cyclesTaken}
 use Rattle.stirling.proofs.Counts.{taken-none, taken-some, taken-fails, taken-counted}
-use Rattle.perm.specs.Lists.{one, some}
+use Rattle.perm.specs.Lists.{some}
 use Rattle.perm.specs.Permutation.{at}
 use Rattle.perm.specs.Array.{position}
+use Rattle.perm.proofs.Search.{one-bound}
 use Rattle.perm.proofs.Tally.{tally-not}
 use Rattle.gray.specs.Order.{S}
 use Rattle.find.specs.Meeting.{meets}
@@ -59,11 +60,7 @@ module _ (n k : ℕ) (w : List ℕ) (s : Sound n w) where
 few-closed : (n : ℕ) (w : List ℕ) → closed n w ≤ n
 unfolding closed
 few-closed zero w = omega arith
-few-closed (suc m) w = omega (arith, few-closed m (smaller m (position (suc m) w) w), at-most (eqb (at w (suc m)) (suc m)))
-  where
-    at-most : (b : Bool) → one b ≤ 1
-    at-most true = omega arith
-    at-most false = omega arith
+few-closed (suc m) w = omega (arith, few-closed m (smaller m (position (suc m) w) w), one-bound (eqb (at w (suc m)) (suc m)))
 
 -- from the wishes by their values
 module _ {n : ℕ} (k : ℕ) {w : List ℕ} {r : ByValue} (h : n < length w) (b : AreByValue n w r) where

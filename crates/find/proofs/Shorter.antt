@@ -14,10 +14,11 @@ use Rattle.perm.proofs.Tally.{tally-append, tally-set}
 use Rattle.perm.proofs.Exchange.{at-put-same, at-put-other, at-exchange-left, at-exchange-right, at-exchange-other}
 use Rattle.perm.proofs.Split.{at-extend-low, at-extend-top}
 use Rattle.gray.specs.Order.{Row}
+use Rattle.gray.proofs.Same.{iff-equal}
 use Rattle.rank.specs.Search.{grown}
 use Rattle.find.specs.Meeting.{granted, meets}
 use Rattle.find.specs.Counting.{Sound, smaller}
-use Rattle.find.proofs.Meeting.{agree, both-true, meets-holds, meets-at}
+use Rattle.find.proofs.Meeting.{both-true, meets-holds, meets-at}
 
 -- wishes of m + 1 positions, and a position x of them
 module _ {m : ℕ} (w : List ℕ) (size : length w ≡ suc m) (x : ℕ) (l : 1 ≤ x) (u : x ≤ suc m) where
@@ -154,4 +155,4 @@ module _ {m : ℕ} (w : List ℕ) (size : length w ≡ suc m) (x : ℕ) (l : 1 �
           rw (longer-other i li h d, ← smaller-other w size x l u i li h d) (each i li (rw (length-smaller w size x l u) h))
 
   pub meets-grown : meets w longer ≡ (granted (at w x) (suc m) && meets (smaller m x w) γ)
-  meets-grown = agree (meets w longer) (granted (at w x) (suc m) && meets (smaller m x w) γ) to-shorter to-longer
+  meets-grown = iff-equal (meets w longer) (granted (at w x) (suc m) && meets (smaller m x w) γ) to-shorter to-longer

@@ -33,7 +33,8 @@ same-true (x ∷ s) (y ∷ t) e =
 pub same-false : (s t : Row) → (s ≡ t → ⊥) → same s t ≡ false
 same-false s t h = refuted (same s t) (λ e. h (same-true s t e))
 
-iff-equal : (a b : Bool) → (a ≡ true → b ≡ true) → (b ≡ true → a ≡ true) → a ≡ b
+-- two tests that pass alike are equal
+pub iff-equal : (a b : Bool) → (a ≡ true → b ≡ true) → (b ≡ true → a ≡ true) → a ≡ b
 iff-equal true true f g = refl
 iff-equal true false f g = sym (f refl)
 iff-equal false true f g = g refl

@@ -79,7 +79,7 @@ pub met-none : (s : List ℕ) → Met s (replicate 21 false) 0
 met-none s = record { size = refl; flag = λ v h. rw (getD-replicate 21 v false false (omega arith)) (omega arith) }
 
 -- a flag counts at most 1
-one-bound : (b : Bool) → one b ≤ 1
+pub one-bound : (b : Bool) → one b ≤ 1
 one-bound true = omega arith
 one-bound false = omega arith
 

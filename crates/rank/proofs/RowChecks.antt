@@ -16,12 +16,12 @@ use Rattle.stirling.proofs.Counts.{place-passed}
 use Rattle.rank.specs.Place.{checkRowCount, checkRows, RowsWritten}
 
 -- neither of two conditions applies
-neither : (a b : Bool) → a || b ≡ false → (a ≡ false) × (b ≡ false)
+pub neither : (a b : Bool) → a || b ≡ false → (a ≡ false) × (b ≡ false)
 neither true b e = absurd (false≢true (sym e))
 neither false b e = (refl, e)
 
 -- one of two conditions applies where the second does if the first does not
-either : (a b : Bool) → (a ≡ false → b ≡ true) → a || b ≡ true
+pub either : (a b : Bool) → (a ≡ false → b ≡ true) → a || b ≡ true
 either true b h = refl
 either false b h = h refl
 
