@@ -49,7 +49,6 @@ fn called(asked: &Asked, size: usize) -> Ended {
 /// As `called`, and the reference ends the same.
 fn same(reference: &Reference, asked: &Asked, size: usize) -> Ended {
     let ended = called(asked, size);
-    // a row that the reference refuses to write is none
     let mut row = vec![99; size];
     let right = reference.find(asked.n, asked.k, asked.place, &asked.wishes, &mut row).map(|place| (place, row));
     assert_eq!(ended, right, "{asked:?} with {size}");
@@ -180,21 +179,22 @@ fn as_stored() {
     let stored = include_str!("vectors/i-find.txt");
     assert_eq!(stored.lines().count(), 1200);
     let reference = Reference::new();
-    let mut met = [0; 15];
+    let mut refused = 0;
     for line in stored.lines() {
         let parts: Vec<&str> = line.split(" | ").collect();
         let head: Vec<u64> = parts[0].split(' ').map(|number| number.parse().unwrap()).collect();
         let wishes = parts[1].split(' ').map(|wish| wish.parse().unwrap()).collect();
         let asked = Asked { n: head[0], k: head[1], place: head[2], wishes };
-        let ended = same(&reference, &asked, head[0] as usize);
-        met[usize::from(ended.as_ref().err().copied().unwrap_or(0))] += 1;
-        let text = match ended {
+        let text = match same(&reference, &asked, head[0] as usize) {
             Ok((found, row)) => format!("{found} | {}", row.iter().map(u8::to_string).collect::<Vec<_>>().join(" ")),
-            Err(refusal) => format!("refused {refusal}"),
+            Err(refusal) => {
+                refused += 1;
+                format!("refused {refusal}")
+            }
         };
         assert_eq!(text, parts[2..].join(" | "), "{line}");
     }
-    assert_eq!((met[0], met[14]), (927, 273));
+    assert_eq!(refused, 273);
 }
 
 #[test]
@@ -242,10 +242,15 @@ fn every_place_of_six_and_seven() {
 /// Where a search begins, seen from the row that its wishes are made from.
 #[derive(Clone, Copy, Debug, PartialEq)]
 enum Start {
+    /// At place 0.
     First,
+    /// Before it, or with it.
     Before,
+    /// With it.
     At,
+    /// With it, or after it.
     After,
+    /// At the last place.
     Last,
 }
 
@@ -255,12 +260,13 @@ const STARTS: [Start; 5] = [Start::First, Start::Before, Start::At, Start::After
 fn random_searches_up_to_twenty() {
     let reference = Reference::new();
     let mut random = Random(37);
+    let pairs = || KINDS.into_iter().flat_map(|kind| STARTS.map(|start| (kind, start)));
     // by kind and start: met at the place itself, met later, not met
     let mut met = [[[0u32; 3]; STARTS.len()]; KINDS.len()];
     for n in 2..=20u64 {
         for k in (1..=n).flat_map(|k| [k; 4]) {
             let rows = reference.count(n, k).unwrap();
-            for (kind, start) in KINDS.into_iter().flat_map(|kind| STARTS.map(|start| (kind, start))) {
+            for (kind, start) in pairs() {
                 let from = random.below(rows);
                 let place = match start {
                     Start::First => 0,
@@ -286,7 +292,7 @@ fn random_searches_up_to_twenty() {
             }
         }
     }
-    for (kind, start) in KINDS.into_iter().flat_map(|kind| STARTS.map(|start| (kind, start))) {
+    for (kind, start) in pairs() {
         let own = matches!(kind, Kind::Some | Kind::All | Kind::Cycles);
         let past = matches!(start, Start::After | Start::Last);
         let later = match start {
@@ -383,8 +389,10 @@ fn met_by_as_many_as_permutations_of_the_free_positions() {
     assert!(met.iter().all(|&times| times > 200), "{met:?}");
 }
 
-/// What can be wrong with a call, from the last refusal to the first: a later one takes the place of an earlier one where both change the same.
+/// A change to a call and its number of bytes lent, and how the call is refused then.
 type Fault = (u8, fn(&mut Asked, &mut usize));
+
+/// From the last refusal to the first, so that a change that undoes another comes before it in the order of refusals.
 const FAULTS: [Fault; 16] = [
     (14, |asked, _| asked.wishes[3] = 3),
     (14, |asked, _| asked.place = 45),
@@ -404,7 +412,7 @@ const FAULTS: [Fault; 16] = [
     (1, |asked, _| asked.n = u64::MAX),
 ];
 
-/// Every set of faults is refused as the first of them is: the refusals come in the order of their numbers.
+/// Every set of faults, made one after another, is refused for the last made.
 #[test]
 fn each_refusal_before_the_later_ones() {
     let reference = Reference::new();
@@ -446,7 +454,7 @@ fn bytes_lent() {
         let lengths = || (0..=n + 2).chain([64, 255, 256, 256 + n, 1000]);
         for (length, size) in lengths().flat_map(|length| lengths().map(move |size| (length, size))) {
             let k = n.min(1) as u64;
-            // the longer ones hold values above n too
+            // with values above n, which are refused later
             let wishes = if length == n { vec![0; n] } else { (0..length).map(|_| random.next() as u8).collect() };
             let right = if length == n && size == n { 0 } else { 5 };
             let asked = Asked { n: n as u64, k, place: 0, wishes };
