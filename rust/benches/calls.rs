@@ -38,7 +38,7 @@ fn freed(random: &mut Random, row: &[u8], in_twenty: u64) -> Vec<u8> {
 struct Search {
     k: u64,
     place: u64,
-    wishes: Vec<u8>,
+    pattern: Vec<u8>,
 }
 
 impl Search {
@@ -48,7 +48,7 @@ impl Search {
         let mut least = f64::INFINITY;
         for _ in 0..300 {
             let start = Instant::now();
-            let _ = black_box(osierdrum::find(20, self.k, self.place, black_box(&self.wishes), &mut out));
+            let _ = black_box(osierdrum::find(20, self.k, self.place, black_box(&self.pattern), &mut out));
             least = least.min(start.elapsed().as_nanos() as f64);
             if least <= known {
                 break;
@@ -59,12 +59,12 @@ impl Search {
 
     /// A search near this one: another wish, another k, or another place, such as the one after some row that meets the wishes.
     fn changed(&self, random: &mut Random) -> Search {
-        let Search { mut k, mut place, mut wishes } = self.clone();
+        let Search { mut k, mut place, mut pattern } = self.clone();
         let (one, other) = (random.below(20) as usize, random.below(20) as usize);
         match random.below(5) {
-            0 => wishes[one] = 0,
-            1 => wishes[one] = other as u8 + 1,
-            2 => wishes.swap(one, other),
+            0 => pattern[one] = 0,
+            1 => pattern[one] = other as u8 + 1,
+            2 => pattern.swap(one, other),
             3 => k = one as u64 + 1,
             _ => {}
         }
@@ -72,10 +72,10 @@ impl Search {
         let from = random.below(rows);
         match random.below(3) {
             0 => place = from,
-            1 => place = osierdrum::find(20, k, from, &wishes, &mut [0; 20]).map_or(place, |met| met + 1),
+            1 => place = osierdrum::find(20, k, from, &pattern, &mut [0; 20]).map_or(place, |met| met + 1),
             _ => {}
         }
-        Search { k, place: place % rows, wishes }
+        Search { k, place: place % rows, pattern }
     }
 }
 
@@ -87,7 +87,7 @@ struct Worst {
 
 impl Worst {
     fn none() -> Worst {
-        Worst { search: Search { k: 1, place: 0, wishes: vec![0; 20] }, nanoseconds: 0.0 }
+        Worst { search: Search { k: 1, place: 0, pattern: vec![0; 20] }, nanoseconds: 0.0 }
     }
 
     fn add(&mut self, search: Search) {
@@ -113,21 +113,21 @@ type Make = fn(&mut Random, &[u8], usize) -> Vec<u8>;
 const KINDS: [(&str, Make); 10] = [
     ("none", |_, _, _| vec![0; 20]),
     ("each value at each position alone", |_, _, turn| {
-        let mut wishes = vec![0; 20];
-        wishes[turn % 20] = (turn / 20 % 20) as u8 + 1;
-        wishes
+        let mut pattern = vec![0; 20];
+        pattern[turn % 20] = (turn / 20 % 20) as u8 + 1;
+        pattern
     }),
     ("values 1 and 2", |random, _, _| {
         let other = shuffled(random, 20);
-        let mut wishes = vec![0; 20];
-        other.iter().zip(1..).take(2).for_each(|(&position, value)| wishes[usize::from(position) - 1] = value);
-        wishes
+        let mut pattern = vec![0; 20];
+        other.iter().zip(1..).take(2).for_each(|(&position, value)| pattern[usize::from(position) - 1] = value);
+        pattern
     }),
     ("value 20 at each position, half a row", |random, row, turn| {
-        let mut wishes = freed(random, row, 10);
-        wishes.iter_mut().filter(|wish| **wish == 20).for_each(|wish| *wish = 0);
-        wishes[turn % 20] = 20;
-        wishes
+        let mut pattern = freed(random, row, 10);
+        pattern.iter_mut().filter(|entry| **entry == 20).for_each(|entry| *entry = 0);
+        pattern[turn % 20] = 20;
+        pattern
     }),
     ("a whole row", |_, row, _| row.to_vec()),
     ("some of a row", |random, row, turn| freed(random, row, turn as u64 % 20)),
@@ -141,9 +141,9 @@ const KINDS: [(&str, Make); 10] = [
     }),
     ("some fixed points", |random, _, turn| freed(random, &(1..=20).collect::<Vec<u8>>(), turn as u64 % 20)),
     ("a path through all positions", |random, _, _| {
-        let mut wishes = vec![0; 20];
-        shuffled(random, 20).windows(2).for_each(|two| wishes[usize::from(two[0]) - 1] = two[1]);
-        wishes
+        let mut pattern = vec![0; 20];
+        shuffled(random, 20).windows(2).for_each(|two| pattern[usize::from(two[0]) - 1] = two[1]);
+        pattern
     }),
 ];
 
@@ -161,11 +161,11 @@ fn worst_search() {
                 let from = random.below(rows);
                 let mut row = [0; 20];
                 osierdrum::unrank(20, k, from, &mut row).expect("a place of the list");
-                let wishes = make(&mut random, &row, turn);
-                let next = |&place: &u64| osierdrum::find(20, k, place, &wishes, &mut [0; 20]).ok().map(|met| met + 1);
+                let pattern = make(&mut random, &row, turn);
+                let next = |&place: &u64| osierdrum::find(20, k, place, &pattern, &mut [0; 20]).ok().map(|met| met + 1);
                 let going_on = successors(Some(0), next).take(if turn % 39 == 0 { 160 } else { 0 });
                 for place in [from, (from + 1) % rows, random.below(rows), 0, rows - 1].into_iter().chain(going_on) {
-                    of_kind.add(Search { k, place, wishes: wishes.clone() });
+                    of_kind.add(Search { k, place, pattern: pattern.clone() });
                 }
             }
             of_kind.again();
@@ -183,7 +183,7 @@ fn worst_search() {
     }
     worst.again();
     worst.line("the worst, changed for the worse");
-    println!("which is {:?} from place {}", worst.search.wishes, worst.search.place);
+    println!("which is {:?} from place {}", worst.search.pattern, worst.search.place);
 }
 
 fn main() {
@@ -253,10 +253,10 @@ fn main() {
         let theirs = nanoseconds(|i| drop(black_box(reference.from_inversions(black_box(&arrays[i]), &mut out))));
         line("from_inversions", n, ours, theirs);
 
-        let wishes: Vec<Vec<u8>> = (0..PLACES).map(|i| freed(&mut random, &made[(i + 1) % PLACES], 10)).collect();
-        let wish = |i: usize| black_box(&wishes[i]);
-        let ours = nanoseconds(|i| _ = black_box(osierdrum::find(n, k, black_box(places[i]), wish(i), &mut out)));
-        let theirs = nanoseconds(|i| _ = black_box(reference.find(n, k, black_box(places[i]), wish(i), &mut out)));
+        let pattern: Vec<Vec<u8>> = (0..PLACES).map(|i| freed(&mut random, &made[(i + 1) % PLACES], 10)).collect();
+        let entry = |i: usize| black_box(&pattern[i]);
+        let ours = nanoseconds(|i| _ = black_box(osierdrum::find(n, k, black_box(places[i]), entry(i), &mut out)));
+        let theirs = nanoseconds(|i| _ = black_box(reference.find(n, k, black_box(places[i]), entry(i), &mut out)));
         line("find", n, ours, theirs);
     }
     worst_search();

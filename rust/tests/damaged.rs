@@ -107,7 +107,7 @@ fn numbers_in_find() {
     let mut met = [0u32; 15];
     let sizes = || [0, 5, 20, 21].into_iter();
     // free, wished twice, and out of range
-    let slices: Vec<Vec<u8>> = sizes().flat_map(|length| [0, 1, 21].map(|wish| vec![wish; length])).collect();
+    let slices: Vec<Vec<u8>> = sizes().flat_map(|length| [0, 1, 21].map(|entry| vec![entry; length])).collect();
     for n in NUMBERS {
         for k in NUMBERS {
             for place in NUMBERS {

@@ -103,23 +103,23 @@ fn search_without_positions() {
     assert_eq!(lent(0, |out| find(0, 0, 0, &[], out)), Ok(0));
     assert_eq!(lent(1, |out| find(0, 0, 0, &[], out)), Err(Refusal::Lent));
     for size in [0, 1] {
-        for wishes in [&[][..], &[0], &[1]] {
+        for pattern in [&[][..], &[0], &[1]] {
             for place in [1, 2, u64::MAX] {
-                assert_eq!(lent(size, |out| find(0, 0, place, wishes, out)), Err(Refusal::Place));
-                assert_eq!(lent(size, |out| find(0, 1, place, wishes, out)), Err(Refusal::Cycles));
+                assert_eq!(lent(size, |out| find(0, 0, place, pattern, out)), Err(Refusal::Place));
+                assert_eq!(lent(size, |out| find(0, 1, place, pattern, out)), Err(Refusal::Cycles));
             }
-            assert_eq!(lent(size, |out| find(1, 0, 0, wishes, out)), Err(Refusal::Cycles));
-            assert_eq!(lent(size, |out| find(21, 0, 0, wishes, out)), Err(Refusal::Size));
+            assert_eq!(lent(size, |out| find(1, 0, 0, pattern, out)), Err(Refusal::Cycles));
+            assert_eq!(lent(size, |out| find(21, 0, 0, pattern, out)), Err(Refusal::Size));
         }
         // too long wishes come before one that is above n
-        for wishes in [[0], [1], [255]] {
-            assert_eq!(lent(size, |out| find(0, 0, 0, &wishes, out)), Err(Refusal::Lent));
+        for pattern in [[0], [1], [255]] {
+            assert_eq!(lent(size, |out| find(0, 0, 0, &pattern, out)), Err(Refusal::Lent));
         }
     }
     assert_eq!(lent(1, |out| find(1, 1, 0, &[2], out)), Err(Refusal::Value));
-    for wish in [0, 1] {
+    for entry in [0, 1] {
         let mut out = [7];
-        assert_eq!(find(1, 1, 0, &[wish], &mut out), Ok(0));
+        assert_eq!(find(1, 1, 0, &[entry], &mut out), Ok(0));
         assert_eq!(out, [1]);
     }
 }

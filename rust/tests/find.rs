@@ -18,7 +18,7 @@ struct Asked {
     n: u64,
     k: u64,
     place: u64,
-    wishes: Vec<u8>,
+    pattern: Vec<u8>,
 }
 
 /// Where a search ended: the place and the row, or the refusal.
@@ -28,15 +28,15 @@ type Ended = Result<(u64, Vec<u8>), u8>;
 /// changed beside the lent ones, nor any by a refused call.
 fn called(asked: &Asked, size: usize) -> Ended {
     const GUARD: usize = 8;
-    let &Asked { n, k, place, ref wishes } = asked;
+    let &Asked { n, k, place, ref pattern } = asked;
     // no call writes such a byte
     let before: Vec<u8> = (0..size + 2 * GUARD).map(|i| 50 + (i % 200) as u8).collect();
     let (mut ours, mut again) = (before.clone(), before.clone());
     let lent = &mut ours[GUARD..GUARD + size];
     // SAFETY: each pointer and length are those of one slice, and the written one is ours alone.
     let given =
-        unsafe { ffi::osierdrum_find(n, k, place, wishes.as_ptr(), wishes.len(), lent.as_mut_ptr(), lent.len()) };
-    let safe = find(n, k, place, wishes, &mut again[GUARD..GUARD + size]).map_err(|refusal| refusal as u8);
+        unsafe { ffi::osierdrum_find(n, k, place, pattern.as_ptr(), pattern.len(), lent.as_mut_ptr(), lent.len()) };
+    let safe = find(n, k, place, pattern, &mut again[GUARD..GUARD + size]).map_err(|refusal| refusal as u8);
     let beside = safe.map_or_else(|refusal| (refusal, 0), |place| (0, place));
     assert_eq!((given.refusal, given.place), beside, "{asked:?} with {size}");
     assert_eq!(ours, again, "{asked:?} with {size}");
@@ -50,7 +50,7 @@ fn called(asked: &Asked, size: usize) -> Ended {
 fn same(reference: &Reference, asked: &Asked, size: usize) -> Ended {
     let ended = called(asked, size);
     let mut row = vec![99; size];
-    let right = reference.find(asked.n, asked.k, asked.place, &asked.wishes, &mut row).map(|place| (place, row));
+    let right = reference.find(asked.n, asked.k, asked.place, &asked.pattern, &mut row).map(|place| (place, row));
     assert_eq!(ended, right, "{asked:?} with {size}");
     ended
 }
@@ -60,33 +60,33 @@ fn refusal(ended: Ended) -> u8 {
     ended.err().unwrap_or(0)
 }
 
-fn meets(row: &[u8], wishes: &[u8]) -> bool {
-    row.iter().zip(wishes).all(|(value, wish)| *wish == 0 || value == wish)
+fn meets(row: &[u8], pattern: &[u8]) -> bool {
+    row.iter().zip(pattern).all(|(value, entry)| *entry == 0 || value == entry)
 }
 
 /// The call ends where a scan of the whole list does, and its answer is as document 02 says.
 fn as_scanned(rows: &[Vec<u8>], asked: &Asked) {
-    let Asked { n, place, wishes, .. } = asked;
+    let Asked { n, place, pattern, .. } = asked;
     let ended = called(asked, *n as usize);
-    let scanned = (0..).zip(rows).find(|(at, row)| at >= place && meets(row, wishes));
+    let scanned = (0..).zip(rows).find(|(at, row)| at >= place && meets(row, pattern));
     assert_eq!(ended, scanned.map(|(at, row)| (at, row.clone())).ok_or(14), "{asked:?}");
     let from = &rows[*place as usize..];
     match ended {
         Ok((found, row)) => {
-            assert!(found >= *place && meets(&row, wishes), "{asked:?}");
+            assert!(found >= *place && meets(&row, pattern), "{asked:?}");
             let (between, rest) = from.split_at((found - place) as usize);
-            assert!(!between.iter().any(|row| meets(row, wishes)), "{asked:?}");
+            assert!(!between.iter().any(|row| meets(row, pattern)), "{asked:?}");
             assert_eq!(rest[0], row, "{asked:?}");
         }
-        Err(_) => assert!(!from.iter().any(|row| meets(row, wishes)), "{asked:?}"),
+        Err(_) => assert!(!from.iter().any(|row| meets(row, pattern)), "{asked:?}"),
     }
 }
 
 /// The places that the call meets, asked again from the place after each.
-fn going_on(n: u64, k: u64, wishes: &[u8]) -> Vec<u64> {
+fn going_on(n: u64, k: u64, pattern: &[u8]) -> Vec<u64> {
     let rows = osierdrum::count(n, k).unwrap();
     let mut met = Vec::new();
-    let mut asked = Asked { n, k, place: 0, wishes: wishes.to_vec() };
+    let mut asked = Asked { n, k, place: 0, pattern: pattern.to_vec() };
     while asked.place < rows {
         match called(&asked, n as usize) {
             Ok((found, _)) => {
@@ -104,9 +104,9 @@ fn going_on(n: u64, k: u64, wishes: &[u8]) -> Vec<u64> {
 }
 
 /// Every wish at every one of n positions.
-fn all_wishes(n: u8) -> Vec<Vec<u8>> {
+fn all_patterns(n: u8) -> Vec<Vec<u8>> {
     (0..n).fold(vec![vec![]], |shorter, _| {
-        let longer = |wishes: Vec<u8>| (0..=n).map(move |wish| [&wishes[..], &[wish]].concat());
+        let longer = |pattern: Vec<u8>| (0..=n).map(move |entry| [&pattern[..], &[entry]].concat());
         shorter.into_iter().flat_map(longer).collect()
     })
 }
@@ -141,37 +141,37 @@ fn any(random: &mut Random, n: usize) -> Vec<u8> {
     some(random, &row)
 }
 
-fn wished(random: &mut Random, row: &[u8], kind: Kind) -> Vec<u8> {
+fn made_from(random: &mut Random, row: &[u8], kind: Kind) -> Vec<u8> {
     match kind {
         Kind::Some => some(random, row),
         Kind::All => row.to_vec(),
         Kind::Cycles => {
-            let mut wishes = vec![0; row.len()];
+            let mut pattern = vec![0; row.len()];
             for first in 0..row.len() {
-                let keep = wishes[first] == 0 && random.below(3) == 0;
+                let keep = pattern[first] == 0 && random.below(3) == 0;
                 let mut at = first;
-                while keep && wishes[at] == 0 {
-                    wishes[at] = row[at];
+                while keep && pattern[at] == 0 {
+                    pattern[at] = row[at];
                     at = usize::from(row[at]) - 1;
                 }
             }
-            wishes
+            pattern
         }
         Kind::Twice => {
-            let mut wishes = some(random, row);
+            let mut pattern = some(random, row);
             let one = random.below(row.len() as u64) as usize;
             let other = (one + 1 + random.below(row.len() as u64 - 1) as usize) % row.len();
-            (wishes[one], wishes[other]) = (row[one], row[one]);
-            wishes
+            (pattern[one], pattern[other]) = (row[one], row[one]);
+            pattern
         }
         Kind::Other => any(random, row.len()),
     }
 }
 
 /// Wishes made from any row of a list.
-fn wished_of(random: &mut Random, rows: &[Vec<u8>], kind: Kind) -> Vec<u8> {
+fn made_from_any(random: &mut Random, rows: &[Vec<u8>], kind: Kind) -> Vec<u8> {
     let row = &rows[random.below(rows.len() as u64) as usize];
-    wished(random, row, kind)
+    made_from(random, row, kind)
 }
 
 #[test]
@@ -183,8 +183,8 @@ fn as_stored() {
     for line in stored.lines() {
         let parts: Vec<&str> = line.split(" | ").collect();
         let head: Vec<u64> = parts[0].split(' ').map(|number| number.parse().unwrap()).collect();
-        let wishes = parts[1].split(' ').map(|wish| wish.parse().unwrap()).collect();
-        let asked = Asked { n: head[0], k: head[1], place: head[2], wishes };
+        let pattern = parts[1].split(' ').map(|entry| entry.parse().unwrap()).collect();
+        let asked = Asked { n: head[0], k: head[1], place: head[2], pattern };
         let text = match same(&reference, &asked, head[0] as usize) {
             Ok((found, row)) => format!("{found} | {}", row.iter().map(u8::to_string).collect::<Vec<_>>().join(" ")),
             Err(refusal) => {
@@ -203,9 +203,9 @@ fn every_search_up_to_five() {
     for n in 0..=5u8 {
         for k in n.min(1)..=n {
             let rows = list(n.into(), k.into());
-            for wishes in all_wishes(n) {
+            for pattern in all_patterns(n) {
                 for place in 0..rows.len() as u64 {
-                    let asked = Asked { n: n.into(), k: k.into(), place, wishes: wishes.clone() };
+                    let asked = Asked { n: n.into(), k: k.into(), place, pattern: pattern.clone() };
                     as_scanned(&rows, &asked);
                     searches += 1;
                 }
@@ -227,13 +227,13 @@ fn every_place_of_six_and_seven() {
                 let after = at + random.below((rows.len() - at) as u64) as usize;
                 for row in [before, at, after].map(|from| &rows[from]) {
                     for kind in KINDS {
-                        let wishes = wished(&mut random, row, kind);
-                        as_scanned(&rows, &Asked { n, k, place: at as u64, wishes });
+                        let pattern = made_from(&mut random, row, kind);
+                        as_scanned(&rows, &Asked { n, k, place: at as u64, pattern });
                     }
                 }
                 // and of no row: any value at any position
-                let wishes = (0..n).map(|_| random.below(n + 1) as u8).collect();
-                as_scanned(&rows, &Asked { n, k, place: at as u64, wishes });
+                let pattern = (0..n).map(|_| random.below(n + 1) as u8).collect();
+                as_scanned(&rows, &Asked { n, k, place: at as u64, pattern });
             }
         }
     }
@@ -277,7 +277,7 @@ fn random_searches_up_to_twenty() {
                 };
                 let mut row = vec![0; n as usize];
                 assert_eq!(reference.unrank(n, k, from, &mut row), Ok(()));
-                let asked = Asked { n, k, place, wishes: wished(&mut random, &row, kind) };
+                let asked = Asked { n, k, place, pattern: made_from(&mut random, &row, kind) };
                 let ended = same(&reference, &asked, row.len());
                 match (kind, &ended) {
                     (Kind::Twice, _) => assert_eq!(ended, Err(14), "{asked:?}"),
@@ -310,14 +310,14 @@ fn random_searches_up_to_twenty() {
 }
 
 #[test]
-fn no_wishes_are_met_at_the_place() {
+fn free_positions_are_met_at_the_place() {
     let reference = Reference::new();
     let mut random = Random(41);
     for n in 0..=20u64 {
         for k in n.min(1)..=n {
             let rows = reference.count(n, k).unwrap();
             for place in [0, rows - 1].into_iter().chain((0..20).map(|_| random.below(rows))) {
-                let asked = Asked { n, k, place, wishes: vec![0; n as usize] };
+                let asked = Asked { n, k, place, pattern: vec![0; n as usize] };
                 let mut row = vec![0; n as usize];
                 assert_eq!(reference.unrank(n, k, place, &mut row), Ok(()));
                 assert_eq!(called(&asked, row.len()), Ok((place, row)), "{asked:?}");
@@ -327,8 +327,8 @@ fn no_wishes_are_met_at_the_place() {
 }
 
 /// The places of the rows that meet the wishes.
-fn places(rows: &[Vec<u8>], wishes: &[u8]) -> Vec<u64> {
-    (0..).zip(rows).filter(|(_, row)| meets(row, wishes)).map(|(place, _)| place).collect()
+fn places(rows: &[Vec<u8>], pattern: &[u8]) -> Vec<u64> {
+    (0..).zip(rows).filter(|(_, row)| meets(row, pattern)).map(|(place, _)| place).collect()
 }
 
 #[test]
@@ -337,32 +337,32 @@ fn going_on_meets_each_once_in_order() {
     for n in 0..=6u64 {
         for k in n.min(1)..=n {
             let rows = list(n as usize, k as usize);
-            let wishes: Vec<Vec<u8>> = if n <= 4 {
-                all_wishes(n as u8)
+            let pattern: Vec<Vec<u8>> = if n <= 4 {
+                all_patterns(n as u8)
             } else {
                 let kinds = KINDS.into_iter().flat_map(|kind| [kind; 40]);
-                kinds.map(|kind| wished_of(&mut random, &rows, kind)).collect()
+                kinds.map(|kind| made_from_any(&mut random, &rows, kind)).collect()
             };
-            for wishes in wishes {
-                assert_eq!(going_on(n, k, &wishes), places(&rows, &wishes), "{wishes:?} in S({n},{k})");
+            for pattern in pattern {
+                assert_eq!(going_on(n, k, &pattern), places(&rows, &pattern), "{pattern:?} in S({n},{k})");
             }
         }
     }
 }
 
 /// The cycles that wishes close, each counted at its least position: the wishes lead back there and pass none before it. No value is wished twice.
-fn closed(wishes: &[u8]) -> usize {
+fn closed(pattern: &[u8]) -> usize {
     let least = |&i: &usize| {
         let mut at = i;
-        while wishes[at] != 0 {
-            at = usize::from(wishes[at]) - 1;
+        while pattern[at] != 0 {
+            at = usize::from(pattern[at]) - 1;
             if at <= i {
                 return at == i;
             }
         }
         false
     };
-    (0..wishes.len()).filter(least).count()
+    (0..pattern.len()).filter(least).count()
 }
 
 /// The wishes that close no cycle are paths, one to each free position, and a permutation of the paths joins them: m free positions and q closed cycles
@@ -376,12 +376,12 @@ fn met_by_as_many_as_permutations_of_the_free_positions() {
         for k in n.min(1)..=n {
             let rows = list(n, k);
             for kind in [Kind::Some, Kind::All, Kind::Cycles, Kind::Other].into_iter().flat_map(|kind| [kind; 25]) {
-                let wishes = wished_of(&mut random, &rows, kind);
-                let (free, closed) = (wishes.iter().filter(|&&wish| wish == 0).count(), closed(&wishes));
+                let pattern = made_from_any(&mut random, &rows, kind);
+                let (free, closed) = (pattern.iter().filter(|&&entry| entry == 0).count(), closed(&pattern));
                 let right = k.checked_sub(closed).map_or(0, |left| c[free][left]);
-                let places = places(&rows, &wishes);
-                assert_eq!(places.len() as u64, right, "{wishes:?} in S({n},{k})");
-                assert_eq!(going_on(n as u64, k as u64, &wishes), places, "{wishes:?} in S({n},{k})");
+                let places = places(&rows, &pattern);
+                assert_eq!(places.len() as u64, right, "{pattern:?} in S({n},{k})");
+                assert_eq!(going_on(n as u64, k as u64, &pattern), places, "{pattern:?} in S({n},{k})");
                 met[right.min(2) as usize] += 1;
             }
         }
@@ -394,12 +394,12 @@ type Fault = (u8, fn(&mut Asked, &mut usize));
 
 /// From the last refusal to the first, so that a change that undoes another comes before it in the order of refusals.
 const FAULTS: [Fault; 16] = [
-    (14, |asked, _| asked.wishes[3] = 3),
+    (14, |asked, _| asked.pattern[3] = 3),
     (14, |asked, _| asked.place = 45),
-    (6, |asked, _| asked.wishes[1] = 6),
-    (6, |asked, _| asked.wishes[4] = 255),
-    (5, |asked, _| asked.wishes.truncate(4)),
-    (5, |asked, _| asked.wishes.resize(6, 0)),
+    (6, |asked, _| asked.pattern[1] = 6),
+    (6, |asked, _| asked.pattern[4] = 255),
+    (5, |asked, _| asked.pattern.truncate(4)),
+    (5, |asked, _| asked.pattern.resize(6, 0)),
     (5, |_, size| *size = 4),
     (5, |_, size| *size = 6),
     (3, |asked, _| asked.place = 50),
@@ -416,7 +416,7 @@ const FAULTS: [Fault; 16] = [
 #[test]
 fn each_refusal_before_the_later_ones() {
     let reference = Reference::new();
-    let good = Asked { n: 5, k: 2, place: 38, wishes: vec![3, 0, 4, 0, 0] };
+    let good = Asked { n: 5, k: 2, place: 38, pattern: vec![3, 0, 4, 0, 0] };
     assert_eq!(called(&good, 5), Ok((38, vec![3, 1, 4, 2, 5])));
     for set in 0..1 << FAULTS.len() {
         let (mut asked, mut size) = (good.clone(), 5);
@@ -430,16 +430,16 @@ fn each_refusal_before_the_later_ones() {
 }
 
 #[test]
-fn wishes_up_to_n() {
+fn values_up_to_n() {
     let reference = Reference::new();
     let mut random = Random(53);
     for n in 1..=20u8 {
         for position in 0..usize::from(n) {
-            for (wish, refused) in [(n, false), (n + 1, true), (255, true)] {
+            for (entry, refused) in [(n, false), (n + 1, true), (255, true)] {
                 let (n, k) = (u64::from(n), 1 + random.below(n.into()));
-                let mut wishes = any(&mut random, n as usize);
-                wishes[position] = wish;
-                let asked = Asked { n, k, place: random.below(reference.count(n, k).unwrap()), wishes };
+                let mut pattern = any(&mut random, n as usize);
+                pattern[position] = entry;
+                let asked = Asked { n, k, place: random.below(reference.count(n, k).unwrap()), pattern };
                 assert_eq!(refusal(same(&reference, &asked, n as usize)) == 6, refused, "{asked:?}");
             }
         }
@@ -455,9 +455,9 @@ fn bytes_lent() {
         for (length, size) in lengths().flat_map(|length| lengths().map(move |size| (length, size))) {
             let k = n.min(1) as u64;
             // with values above n, which are refused later
-            let wishes = if length == n { vec![0; n] } else { (0..length).map(|_| random.next() as u8).collect() };
+            let pattern = if length == n { vec![0; n] } else { (0..length).map(|_| random.next() as u8).collect() };
             let right = if length == n && size == n { 0 } else { 5 };
-            let asked = Asked { n: n as u64, k, place: 0, wishes };
+            let asked = Asked { n: n as u64, k, place: 0, pattern };
             assert_eq!(refusal(same(&reference, &asked, size)), right, "{asked:?} with {size}");
         }
     }
@@ -489,15 +489,15 @@ fn damaged_at_random() {
         let k = random.below(n + 2);
         let rows = reference.count(n, k).unwrap_or(1);
         let place = random.below(rows + rows / 8 + 1);
-        let mut wishes = any(&mut random, n as usize);
+        let mut pattern = any(&mut random, n as usize);
         match random.below(8) {
-            0 => wishes.resize(random.below(24) as usize, 0),
-            1 if n > 0 => wishes[random.below(n) as usize] = random.next() as u8,
-            2 if n > 0 => wishes[random.below(n) as usize] = random.below(n + 2) as u8,
+            0 => pattern.resize(random.below(24) as usize, 0),
+            1 if n > 0 => pattern[random.below(n) as usize] = random.next() as u8,
+            2 if n > 0 => pattern[random.below(n) as usize] = random.below(n + 2) as u8,
             _ => {}
         }
         let size = if random.below(8) == 0 { random.below(24) } else { n };
-        let asked = Asked { n, k, place, wishes };
+        let asked = Asked { n, k, place, pattern };
         met[usize::from(refusal(same(&reference, &asked, size as usize)))] += 1;
     }
     assert!([0, 1, 2, 3, 5, 6, 14].iter().all(|&refusal| met[refusal] > 1_000), "{met:?}");

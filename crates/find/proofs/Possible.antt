@@ -72,15 +72,15 @@ module _ {n : ℕ} (k : ℕ) {w : List ℕ} {r : ByValue} (h : n < length w) (b 
     sound = linked-sound w (r .positions) h (b .linked t)
 
     pub few : q + r .free ≤ n + n
-    few = omega (arith, e, few-closed n (patternOf n w), b .counted, tally-not (eqb 0) (patternOf n w), length-pattern n w h)
+    few = omega (arith, e, few-closed n (patternOf n w), b .counted t, tally-not (eqb 0) (patternOf n w), length-pattern n w h)
 
     pub all-closed : r .free ≡ 0 → eqb k q ≡ some (meets (patternOf n w)) (S n k)
-    all-closed z = ap (eqb k) e ∙ sym (met-full n k (patternOf n w) sound (sym (b .counted) ∙ z))
+    all-closed z = ap (eqb k) e ∙ sym (met-full n k (patternOf n w) sound (sym (b .counted t) ∙ z))
 
     pub some-free : (r .free ≡ 0 → ⊥) → (x : Bool) → (x ≡ true → (q < k) × (k ≤ q + r .free)) → (x ≡ false → q < k → k ≤ q + r .free → ⊥)
         → x ≡ some (meets (patternOf n w)) (S n k)
     some-free d true f g =
         let (l, u) = f refl in
-        sym (met-open n k (patternOf n w) sound (λ z. d (b .counted ∙ z)) (omega (arith, e)) (omega (arith, e, b .counted)))
+        sym (met-open n k (patternOf n w) sound (λ z. d (b .counted t ∙ z)) (omega (arith, e)) (omega (arith, e, b .counted t)))
     some-free d false f g =
-        sym (met-fails n k (patternOf n w) sound (λ z. d (b .counted ∙ z)) (λ l u. g refl (omega (arith, e)) (omega (arith, e, b .counted))))
+        sym (met-fails n k (patternOf n w) sound (λ z. d (b .counted t ∙ z)) (λ l u. g refl (omega (arith, e)) (omega (arith, e, b .counted t))))

@@ -1,10 +1,9 @@
 -- How the first row is found, going down the blocks. Only private contracts cite these. These are definitions; nothing is assumed.
 use mathlib.Core.Path.{_≡_}
 use Prim.Native.Nat.{ℕ, _+_, _-_, _*_, _≤_, _<_}
-use mathlib.Core.Bool.{Bool, true, false, not, cond, _||_, _&&_}
+use mathlib.Core.Bool.{Bool, true, false, _&&_}
 use mathlib.Core.List.{List}
-use lib.Dec.{eqb, ltb}
-use lib.ListN.{getD, set, take, drop}
+use lib.ListN.{getD, take, drop}
 use Rattle.stirling.specs.Count.{c}
 use Rattle.perm.specs.Lists.{some}
 use Rattle.gray.specs.declared.Block.the-variants.{Extend as E}
@@ -30,20 +29,11 @@ pub record Linked (n : ℕ) (w p : List ℕ) : Type 0 where
   pub values : Points n w p
   pub positions : Points n p w
 
--- one position more, with its wish
-abbrev pub noted : ByValue → ℕ → ℕ → ℕ → ByValue
-noted seen n position value =
-    cond (eqb value 0)
-    (record { sound = seen .sound; free = seen .free + 1; positions = seen .positions })
-    (cond (ltb n value || not (eqb (getD (seen .positions) value 0) 0))
-    (record { sound = false; free = seen .free; positions = seen .positions })
-    (record { sound = seen .sound; free = seen .free; positions = set (seen .positions) value position }))
-
 -- the wishes of n positions by their values
 pub record AreByValue (n : ℕ) (w : List ℕ) (r : ByValue) : Type 0 where
   pub linked : r .sound ≡ true → Linked n w (r .positions)
   pub unsound : r .sound ≡ false → Sound n (patternOf n w) → ⊥
-  pub counted : r .free ≡ free (patternOf n w)
+  pub counted : r .sound ≡ true → r .free ≡ free (patternOf n w)
 
 -- what stands below the block with a number, counted as a reading of S(n,k) meets the blocks
 abbrev pub partRead : ℕ → ℕ → Bool → ℕ → Part

@@ -16,7 +16,7 @@ ghost use Rattle.gray.specs.Blocks.{blocks};
 ghost use Rattle.find.specs.Meeting.{meets, leastFrom};
 ghost use Rattle.find.specs.Find.{checkPattern, checkAsked, findOf, writtenBy};
 ghost use Rattle.find.specs.Counting.{closed};
-ghost use Rattle.find.specs.Search.{patternOf, Linked, noted, AreByValue, partRead, enters, Searchable, Searched};
+ghost use Rattle.find.specs.Search.{patternOf, Linked, AreByValue, partRead, enters, Searchable, Searched};
 
 // No permutation from the place on meets the wishes.
 pub const REFUSED_UNMET: u8 = 14;
@@ -35,6 +35,13 @@ struct ByValue {
     free: u64,
     positions: [u8; 21],
 }
+
+// What is told of wishes that no permutation meets.
+const UNSOUND: ByValue = ByValue {
+    sound: false,
+    free: 0,
+    positions: [0u8; 21],
+};
 
 // What stands below a block of S(n,k) in a reading: the position at which the block's rows have value n, and the list S(n-1,cycles) with its reading.
 struct Part {
@@ -59,51 +66,32 @@ fn smaller(w: [u8; 21], position: u64, n: u64) -> [u8; 21]
     left
 }
 
-// One position more, with what it wishes.
-fn note(seen: ByValue, n: u64, position: u64, value: u8) -> ByValue
-    requires { ⌜ (n ≤ 20) × (position ≤ 20) × (seen .free < 20) ⌝ }
-    ensures { λ r. ⌜ r ≡ noted seen n position value ⌝ }
-{
-    if value == 0 {
-        return ByValue {
-            sound: seen.sound,
-            free: seen.free + 1,
-            positions: seen.positions,
-        };
-    }
-    let at = value as usize;
-    if value as u64 > n || seen.positions[at] != 0 {
-        return ByValue {
-            sound: false,
-            free: seen.free,
-            positions: seen.positions,
-        };
-    }
-    let mut positions = seen.positions;
-    positions[at] = position as u8;
-    ByValue {
-        sound: seen.sound,
-        free: seen.free,
-        positions,
-    }
-}
-
-// The wishes of n positions by their values, in one pass.
+// The wishes of n positions by their values, in one pass. A free position is noted at index 0, which is no value.
 fn by_value(n: u64, w: [u8; 21]) -> ByValue
     requires { ⌜ n ≤ 20 ⌝ }
     ensures { λ r. ⌜ AreByValue n w r ⌝ }
 {
-    let mut seen = ByValue {
-        sound: true,
-        free: 0,
-        positions: [0u8; 21],
-    };
+    let mut positions = [0u8; 21];
+    let mut free = 0;
     let mut i = 1;
     while i <= n {
-        seen = note(seen, n, i, w[i as usize]);
+        let value = w[i as usize];
+        if value as u64 > n {
+            return UNSOUND;
+        }
+        if value == 0 {
+            free += 1;
+        } else if positions[value as usize] != 0 {
+            return UNSOUND;
+        }
+        positions[value as usize] = i as u8;
         i += 1;
     }
-    seen
+    ByValue {
+        sound: true,
+        free,
+        positions,
+    }
 }
 
 // How many cycles the wishes of n positions close. The last position and its value are taken away, one size after another: the position that wishes the value gets the

@@ -7,16 +7,16 @@ use std::mem::replace;
 impl Sigma {
     /// Whether the product γ·σ meets the wishes for some permutation γ of n with k cycles. γ is to carry the value that stands at a position by now to
     /// the value wished there; values above n it leaves.
-    fn can_meet(&self, n: usize, k: usize, wishes: &[u8]) -> bool {
+    fn can_meet(&self, n: usize, k: usize, pattern: &[u8]) -> bool {
         let mut to = [0; MOST + 1];
-        let mut wished = [false; MOST + 1];
-        for (&stands, &wish) in self.value[1..].iter().zip(wishes).filter(|(_, &wish)| wish != 0) {
-            let (stands, wish) = (usize::from(stands), usize::from(wish));
-            let twice = replace(&mut wished[wish], true);
-            if twice || (stands.max(wish) > n && stands != wish) {
+        let mut made_from = [false; MOST + 1];
+        for (&stands, &entry) in self.value[1..].iter().zip(pattern).filter(|(_, &entry)| entry != 0) {
+            let (stands, entry) = (usize::from(stands), usize::from(entry));
+            let twice = replace(&mut made_from[entry], true);
+            if twice || (stands.max(entry) > n && stands != entry) {
                 return false;
             }
-            to[stands] = wish;
+            to[stands] = entry;
         }
         let mut met = [false; MOST + 1];
         let (mut closed, mut free) = (0, 0);
@@ -42,8 +42,8 @@ impl Sigma {
 
 impl Reference {
     /// The first row of a sublist, at or after its row `start`, that meets the wishes: how many rows stand before it, and the row itself in σ.
-    fn first(&self, sigma: &mut Sigma, n: usize, k: usize, up: bool, start: u64, wishes: &[u8]) -> Option<u64> {
-        if start >= self.c[n][k] || !sigma.can_meet(n, k, wishes) {
+    fn first(&self, sigma: &mut Sigma, n: usize, k: usize, up: bool, start: u64, pattern: &[u8]) -> Option<u64> {
+        if start >= self.c[n][k] || !sigma.can_meet(n, k, pattern) {
             return None;
         }
         if n == k {
@@ -54,7 +54,7 @@ impl Reference {
         while let Some(call) = instructions.get(at, up) {
             sigma.left(call.j, n);
             let rest = start.saturating_sub(before);
-            if let Some(found) = self.first(sigma, n - 1, call.k, call.up, rest, wishes) {
+            if let Some(found) = self.first(sigma, n - 1, call.k, call.up, rest, pattern) {
                 return Some(before + found);
             }
             sigma.left(call.j, n);
@@ -64,19 +64,19 @@ impl Reference {
         None
     }
 
-    pub fn find(&self, n: u64, k: u64, place: u64, wishes: &[u8], out: &mut [u8]) -> Result<u64, u8> {
+    pub fn find(&self, n: u64, k: u64, place: u64, pattern: &[u8], out: &mut [u8]) -> Result<u64, u8> {
         let (n, k) = self.numbers(n, k)?;
         if place >= self.c[n][k] {
             return Err(3);
         }
-        if wishes.len() != n || out.len() != n {
+        if pattern.len() != n || out.len() != n {
             return Err(5);
         }
-        if wishes.iter().any(|&wish| usize::from(wish) > n) {
+        if pattern.iter().any(|&entry| usize::from(entry) > n) {
             return Err(6);
         }
         let mut sigma = Sigma::identity();
-        let found = self.first(&mut sigma, n, k, true, place, wishes).ok_or(14)?;
+        let found = self.first(&mut sigma, n, k, true, place, pattern).ok_or(14)?;
         out.copy_from_slice(&sigma.value[1..=n]);
         Ok(found)
     }
