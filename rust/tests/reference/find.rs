@@ -9,10 +9,10 @@ impl Sigma {
     /// the value wished there; values above n it leaves.
     fn can_meet(&self, n: usize, k: usize, pattern: &[u8]) -> bool {
         let mut to = [0; MOST + 1];
-        let mut made_from = [false; MOST + 1];
+        let mut taken = [false; MOST + 1];
         for (&stands, &entry) in self.value[1..].iter().zip(pattern).filter(|(_, &entry)| entry != 0) {
             let (stands, entry) = (usize::from(stands), usize::from(entry));
-            let twice = replace(&mut made_from[entry], true);
+            let twice = replace(&mut taken[entry], true);
             if twice || (stands.max(entry) > n && stands != entry) {
                 return false;
             }
