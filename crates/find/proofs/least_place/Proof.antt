@@ -1,6 +1,7 @@
 -- `find::least_place` meets its contract: where the count says that some row meets the wishes, by the search, and else there is none. Assumes nothing.
 use mathlib.Core.Path.{_≡_, sym, ap, _∙_}
 use Prim.Native.Nat.{ℕ}
+use native.Mathlib.Omega.{arith}
 use mathlib.Core.List.{List}
 use borrow.Author.Tests.{not-true, not-false}
 use Rattle.perm.specs.Lists.{some}
@@ -40,7 +41,7 @@ first-requires : tie.Need-first-requires
 first-requires c κs =
     let m = c .before in
     let s = at-start (m .before) in
-    (s .pre .0, record { small = s .pre .1 .0; below = s .pre .1 .1; met = sym (m .can-meet .ensures) ∙ not-false _ (c .if1 .left) })
+    (s .pre .0, record { small = s .pre .1 .0; below = omega (arith, s .pre .1 .1); met = sym (m .can-meet .ensures) ∙ not-false _ (c .if1 .left) })
 
 returns-2 : tie.Need-returns-2
 returns-2 c =
