@@ -135,7 +135,6 @@ part-meets (suc m) k backward number w h z l r u =
 -- the search at a block of a reading: `first` rows stand before it, none of those from the start on meets the wishes, and at most one list below was gone through, one
 -- whose start lay in its middle
 pub record Going (n k : ℕ) (backward : Bool) (start : ℕ) (w : List ℕ) (number first calls : ℕ) : Type 0 where
-  pub most : number ≤ length (blocks n k)
   pub stands : first ≡ before n k backward number
   pub none : (i : ℕ) → start ≤ i → i < first → meets (patternOf n w) (rowAt (readingOf backward n k) i) ≡ false
   pub few : calls ≤ n + 1
@@ -143,7 +142,6 @@ pub record Going (n k : ℕ) (backward : Bool) (start : ℕ) (w : List ℕ) (num
 
 pub begins : (n k : ℕ) (backward : Bool) (start : ℕ) (w : List ℕ) → Going n k backward start w 0 0 1
 begins n k backward start w = record {
-  most = omega arith;
   stands = sym (before-none n k backward);
   none = λ i l u. absurd (omega arith);
   few = omega arith;
@@ -191,7 +189,6 @@ module _ {n k : ℕ} {backward : Bool} {start : ℕ} {w : List ℕ} {number firs
       → (calls' ≡ 1) ⊎ ((1 ≤ start) × (start < first + size))
       → Going n k backward start w (suc number) (first + size) calls'
   on calls' missed few once = record {
-    most = l;
     stands = ends-at;
     none = λ i li ui. cases (ltb i first)
         (λ t. g .none i li (ltb-true i first t))

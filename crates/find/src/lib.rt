@@ -199,14 +199,9 @@ fn first(counts: &[u64], n: u64, k: u64, backward: bool, start: u64, w: [u8; 21]
         let part = part_at(n, k, backward, number);
         let next = before + stirling::entry(counts, n - 1, part.cycles);
         if start < next && can_enter(n, part, w) {
-            let below = first(
-                counts,
-                n - 1,
-                part.cycles,
-                part.backward,
-                start_in(start, before),
-                smaller(w, part.position, n),
-            );
+            let from = start_in(start, before);
+            let left = smaller(w, part.position, n);
+            let below = first(counts, n - 1, part.cycles, part.backward, from, left);
             calls += below.calls;
             if below.place < next - before {
                 return Search {

@@ -240,9 +240,6 @@ module _ (t : ℕ) where
       let l = b .before .before in
       (some-value l, at-entry l .pre .1 .1 .small, at-position b .0, at-position b .1)
 
-  first-sub-first : first-lts.Need-sub-first (calls t) (first-at t) first.Post first-Inv-loop first-μ-loop
-  first-sub-first c = some-value (c .before .before .before .before .before .before)
-
   first-start-in-requires : first-lts.Need-start-in-requires (calls t) (first-at t) first.Post first-Inv-loop first-μ-loop
   first-start-in-requires c κs = tt
 
@@ -251,6 +248,9 @@ module _ (t : ℕ) where
       let b = c .before .before .before .before .before in
       let small = at-entry (b .before .before) .pre .1 .1 .small in
       (omega (arith, at-position b), small)
+
+  first-sub-first : first-lts.Need-sub-first (calls t) (first-at t) first.Post first-Inv-loop first-μ-loop
+  first-sub-first c = some-value (entered-in c)
 
   first-first-requires : first-lts.Need-first-requires (calls t) (first-at t) first.Post first-Inv-loop first-μ-loop
   first-first-requires c κs =
@@ -336,9 +336,9 @@ pub +first-spec : {M : Type 1} → statement M
     (first-entry-requires t)
     (first-add-next t)
     (first-can-enter-requires t)
-    (first-sub-first t)
     (first-start-in-requires t)
     (first-smaller-requires t)
+    (first-sub-first t)
     (first-first-requires t)
     (first-add-calls t)
     (first-sub-if4 t)
