@@ -141,13 +141,18 @@ module _ (t : ℕ) where
       let (lx, ux) = at-position b in
       ap (patternOf (e .n - 1)) (m .smaller .ensures) ∙ pattern-below (e .n) (e .w) (b .part-at .result .position) lx ux
 
+  -- where it is searched from
+  begins-at : (m : first-lts.After-smaller (calls t) (first-at t) first.Post first-Inv-loop first-μ-loop)
+      → m .before .start-in .result ≡ at-entry (entered-in m) .args .start - entered-in m .loop .before
+  begins-at m = omega (arith, m .before .start-in .ensures)
+
   start-below : (m : first-lts.After-smaller (calls t) (first-at t) first.Post first-Inv-loop first-μ-loop)
       → let e = at-entry (entered-in m) .args in
       m .before .start-in .result < c (e .n - 1) (entered-at m .before .part-at .result .cycles)
   start-below m =
       let l = entered-in m in
       let b = entered-at m .before in
-      omega (arith, m .before .start-in .ensures, starts-below (some-value l) (long l) (l .loop .inv) (block-left (b .before)) (b .part-at .ensures) (entered m) (inside m))
+      omega (arith, begins-at m, starts-below (some-value l) (long l) (l .loop .inv) (block-left (b .before)) (b .part-at .ensures) (entered m) (inside m))
 
   -- what was found in it
   inner : (f : first-lts.After-first (calls t) (first-at t) first.Post first-Inv-loop first-μ-loop)
@@ -161,7 +166,7 @@ module _ (t : ℕ) where
       let q = entered-at m .before .part-at .result in
       subst
       (λ (x : ℕ). First (meets (smaller (e .n - 1) (q .position) (patternOf (e .n) (e .w)))) (readingOf (q .backward) (e .n - 1) (q .cycles)) x (f .first .result .place))
-      (m .before .start-in .ensures)
+      (begins-at m)
       (first-of (left m) (omega (arith, start-below m)) (f .first .ensures))
 
   -- a row of it
@@ -181,7 +186,7 @@ module _ (t : ℕ) where
       u
       (omega (arith, next-most a, is-size a))
       (f .first .ensures .few)
-      (λ z. f .first .ensures .straight (m .before .start-in .ensures ∙ z))
+      (λ z. f .first .ensures .straight (begins-at m ∙ z))
 
   -- or none, and the search goes on
   none-found : (f : first-lts.After-first (calls t) (first-at t) first.Post first-Inv-loop first-μ-loop)
