@@ -75,22 +75,23 @@ module _ (n k place : ℕ) (w : List ℕ) (size : ℕ) where
       answers r 0 (then-stops (checkAsked n k place w size) (checkMet n k place w) r e d) (sym (unless-refuses r least 0 d))
 
   module _ (e : checkAsked n k place w size ≡ 0) where
-    first : First (meets w) (S n k) place least
-    first = let (_, l, _, _) = asked-passed n k place w size e in least-first (meets w) (S n k) place (omega (arith, length-S n k))
+    -- the least place, or the number of rows
+    pub first-place : First (meets w) (S n k) place least
+    first-place = let (_, l, _, _) = asked-passed n k place w size e in least-first (meets w) (S n k) place (omega (arith, length-S n k))
 
     -- no row from the place on meets the wishes
     pub find-unmet : least ≡ c n k → _≡_ {A = Found} (record { refusal = 14; place = 0 }) (findOf n k place w size)
     find-unmet q =
-        let none = first-none (meets w) (S n k) place first (omega (arith, length-S n k)) in
+        let none = first-none (meets w) (S n k) place first-place (omega (arith, length-S n k)) in
         answers 14 0 (sym (then-passes _ (checkMet n k place w) e ∙ rw none)) refl
 
     pub below-all : (least ≡ c n k → ⊥) → least < c n k
-    below-all d = omega (arith, first .most, length-S n k)
+    below-all d = omega (arith, first-place .most, length-S n k)
 
     -- or the first one that does
     pub find-met : (least ≡ c n k → ⊥) → _≡_ {A = Found} (record { refusal = 0; place = least }) (findOf n k place w size)
     find-met d =
-        let some-met = first-some (meets w) (S n k) place first (omega (arith, below-all d, length-S n k)) in
+        let some-met = first-some (meets w) (S n k) place first-place (omega (arith, below-all d, length-S n k)) in
         answers 0 least (sym (then-passes _ (checkMet n k place w) e ∙ rw some-met)) refl
 
 -- and its row

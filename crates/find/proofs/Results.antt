@@ -27,8 +27,8 @@ use Rattle.find.specs.Find.{checkLengths, checkPattern, checkAsked, chec
 use Rattle.find.specs.Counting.{free, closed}
 use Rattle.find.proofs.Counting.{counted}
 use Rattle.find.proofs.Meeting.{granted-free, granted-same, granted-true, meets-holds, meets-at, met-sound}
-use Rattle.find.proofs.Least.{First, least-first, first-least, first-some, first-none}
-use Rattle.find.proofs.Answered.{asked-passed, asked-values, find-met, find-unmet}
+use Rattle.find.proofs.Least.{first-least, first-some, first-none}
+use Rattle.find.proofs.Answered.{first-place, asked-passed, asked-values, find-met, find-unmet}
 
 -- a permutation meets wishes where it has the wished value at each position with a wish
 pub meets-all : (w : List ℕ) (s : Row) → ((i : ℕ) → 1 ≤ i → i ≤ length w → (at w i ≡ 0 → ⊥) → at s i ≡ at w i) → meets w s ≡ true
@@ -62,10 +62,6 @@ module _ (n k place : ℕ) (w : List ℕ) (size : ℕ) where
       (refuse-other (not (eqb (length w) n) || not (eqb size n)) 5 (λ e. omega arith)))
       (refuse-other (some (ltb n) w) 6 (λ e. omega arith))
 
-  -- the least place, where what is asked passes
-  first-place : checkAsked n k place w size ≡ 0 → First (meets w) (S n k) place (leastFrom (meets w) (S n k) place)
-  first-place e = let (_, l, _, _) = asked-passed n k place w size e in least-first (meets w) (S n k) place (omega (arith, length-S n k))
-
   abbrev r : ℕ
   r = leastFrom (meets w) (S n k) place
 
@@ -77,7 +73,7 @@ module _ (n k place : ℕ) (w : List ℕ) (size : ℕ) where
       × ((q : ℕ) → place ≤ q → q < findOf n k place w size .place → meets w (rowAt (S n k) q) ≡ false)
   found-first e =
       let (a, m) = then-passed (checkAsked n k place w size) (checkMet n k place w) e in
-      let f = first-place a in
+      let f = first-place n k place w size a in
       let met : some (meets w) (drop place (S n k)) ≡ true = not-false _ (refuse-passed _ 13 m) in
       let below : r < length (S n k) =
       cases (ltb r (length (S n k))) (ltb-true r _)
@@ -88,7 +84,7 @@ module _ (n k place : ℕ) (w : List ℕ) (size : ℕ) where
   pub unmet-refused : checkAsked n k place w size ≡ 0 → ((q : ℕ) → place ≤ q → q < c n k → meets w (rowAt (S n k) q) ≡ false)
       → findOf n k place w size .refusal ≡ 14
   unmet-refused e none =
-      let f = first-place e in
+      let f = first-place n k place w size e in
       let all : r ≡ c n k =
       cases (ltb r (c n k))
       (λ t. absurd (true≢false (sym (f .passes (rw (length-S n k) (ltb-true r (c n k) t))) ∙ none r (f .from) (ltb-true r (c n k) t))))
@@ -104,7 +100,7 @@ module _ (n k place : ℕ) (w : List ℕ) (size : ℕ) where
           → (checkAsked n k place w size ≡ 0) × ((q : ℕ) → place ≤ q → q < c n k → meets w (rowAt (S n k) q) ≡ false)
       by-asked (suc a) z e = absurd (asked-other (z ∙ e))
       by-asked zero z e =
-          let f = first-place z in
+          let f = first-place n k place w size z in
           let all : r ≡ c n k =
           cases (ltb r (c n k))
           (λ t. absurd (omega (arith, sym (ap (λ (b : Bool). refuse (not b) 14) (first-some (meets w) (S n k) place f (rw (length-S n k) (ltb-true r (c n k) t)))))))

@@ -183,21 +183,22 @@ module _ {n k : ℕ} {backward : Bool} {start : ℕ} {w : List ℕ} {number firs
       ≡ (granted (getD w (q .position) 0) n && meets (smaller (n - 1) (q .position) (patternOf n w)) (rowAt (readingOf (q .backward) (n - 1) (q .cycles)) r)))
       (sym e) (part-meets n k backward number w h z l r) u
 
+  -- none of the rows from the start on, up to a row of the block, meets the wishes, where none of the block's own does
+  none-to : (b : ℕ) → ((r : ℕ) → r < b → start ≤ first + r → meets (patternOf n w) (rowAt (readingOf backward n k) (first + r)) ≡ false)
+      → (i : ℕ) → start ≤ i → i < first + b → meets (patternOf n w) (rowAt (readingOf backward n k) i) ≡ false
+  none-to b missed i l u =
+      cases (ltb i first)
+      (λ t. g .none i l (ltb-true i first t))
+      (λ f.
+      let e : first + (i - first) ≡ i = omega (arith, ltb-false i first f) in
+      subst (λ (j : ℕ). meets (patternOf n w) (rowAt (readingOf backward n k) j) ≡ false) e (missed (i - first) (omega (arith, ltb-false i first f)) (omega arith)))
+
   -- going on, where none of the block's rows from the start on meets the wishes
   on : (calls' : ℕ) → ((r : ℕ) → r < size → start ≤ first + r → meets (patternOf n w) (rowAt (readingOf backward n k) (first + r)) ≡ false)
       → calls' ≤ n + 1
       → (calls' ≡ 1) ⊎ ((1 ≤ start) × (start < first + size))
       → Going n k backward start w (suc number) (first + size) calls'
-  on calls' missed few once = record {
-    stands = ends-at;
-    none = λ i li ui. cases (ltb i first)
-        (λ t. g .none i li (ltb-true i first t))
-        (λ f.
-        let e : first + (i - first) ≡ i = omega (arith, ltb-false i first f) in
-        subst (λ (j : ℕ). meets (patternOf n w) (rowAt (readingOf backward n k) j) ≡ false) e (missed (i - first) (omega (arith, ltb-false i first f)) (omega arith)));
-    few = few;
-    once = once;
-  }
+  on calls' missed few once = record { stands = ends-at; none = none-to size missed; few = few; once = once }
 
   -- the start lies behind it
   pub passes-by : first + size ≤ start → Going n k backward start w (suc number) (first + size) calls
@@ -247,12 +248,7 @@ module _ {n k : ℕ} {backward : Bool} {start : ℕ} {w : List ℕ} {number firs
           record {
             from = omega (arith, f .from);
             most = omega (arith, ends-at);
-            none = λ i li ui. cases (ltb i first)
-                (λ q. g .none i li (ltb-true i first q))
-                (λ q.
-                let e : first + (i - first) ≡ i = omega (arith, ltb-false i first q) in
-                subst (λ (j : ℕ). meets (patternOf n w) (rowAt (readingOf backward n k) j) ≡ false) e
-                (alike (i - first) (omega arith) ∙ f .none (i - first) (omega arith) (omega (arith, ltb-false i first q))));
+            none = none-to r (λ i l h. alike i (omega arith) ∙ f .none i (omega arith) l);
             passes = λ _. alike r u ∙ f .passes (rw length-below u);
           }
 
