@@ -1,5 +1,5 @@
--- The number of cycles, by following, of E(γ) and I(i,γ); a cycle closes within n steps and has exactly one least position.
--- From what a permutation's values are, the pigeonhole principle, and the laws of counting. Assumes nothing.
+-- The number of cycles, by following, of E(γ), of I(i,γ), and of a partial permutation with one position more; a cycle closes within n steps and has exactly one least
+-- position. From what a permutation's values are, the pigeonhole principle, and the laws of counting. Assumes nothing.
 use mathlib.Core.Path.{_≡_, refl, sym, ap, _∙_}
 use mathlib.Core.Logic.{_⊎_, inl, inr}
 use mathlib.Core.Bool.{Bool, true, false}
@@ -8,11 +8,11 @@ use Prim.Native.Nat.{ℕ, zero, suc, _+_, _-_, _≤_, _<_}
 use native.Mathlib.Nat.{eq-or-lt-of-le, le-refl, le-antisymm, zero-add, suc-add}
 use native.Mathlib.Decide.{ℕ-discrete}
 use native.Mathlib.Omega.{arith}
-use lib.Dec.{T, ltb, nltb→le}
+use lib.Dec.{T, eqb, ltb, nltb→le}
 use lib.ListN.{length}
-use borrow.Author.Tests.{ltb-false, le-ltb}
+use borrow.Author.Tests.{ltb-false, le-ltb, eq-eqb, ne-eqb}
 use Rattle.perm.specs.Lists.{one, tally, positions}
-use Rattle.perm.specs.Permutation.{IsPermutation, at, extend, insert}
+use Rattle.perm.specs.Permutation.{IsPermutation, IsPartial, at, extend, insert}
 use Rattle.perm.specs.Cycle.{follow, least, cycles}
 use Rattle.perm.proofs.Tally.{tally-positions, tally-range-cong, range-none-passes, range-tally-none}
 use Rattle.perm.proofs.Values.{in-range, injective}
@@ -31,32 +31,46 @@ unfolding follow
 follow-fixed s i e zero = refl
 follow-fixed s i e (suc t) = ap (at s) (follow-fixed s i e t) ∙ e
 
-module _ {n : ℕ} {s : List ℕ} (p : IsPermutation n s) where
-  follow-range : (t i : ℕ) → 1 ≤ i → i ≤ n → (1 ≤ follow s t i) × (follow s t i ≤ n)
+-- from a position that leads past no position without a value in n steps
+module _ {n : ℕ} {s : List ℕ} (p : IsPartial n s) (i : ℕ) (h : i ≤ n) (goes : (t : ℕ) → t ≤ n → 1 ≤ follow s t i) where
+  inside : (t : ℕ) → t ≤ n → follow s t i ≤ n
   unfolding follow
-  follow-range zero i h k = (h, k)
-  follow-range (suc t) i h k = let r = follow-range t i h k in in-range p (follow s t i) (r .0) (r .1)
+  inside zero l = h
+  inside (suc t) l = p .bound (follow s t i) (goes t (omega arith)) (inside t (omega arith))
 
-  follow-injective : (t i j : ℕ) → 1 ≤ i → i ≤ n → 1 ≤ j → j ≤ n → follow s t i ≡ follow s t j → i ≡ j
+  -- equal positions after a and after a + d steps: d steps lead back
+  repeat-closes : (a d : ℕ) → a + d ≤ n → follow s a i ≡ follow s (a + d) i → i ≡ follow s d i
   unfolding follow
-  follow-injective zero i j hi ki hj kj e = e
-  follow-injective (suc t) i j hi ki hj kj e =
-      let a = follow-range t i hi ki in
-      let b = follow-range t j hj kj in
-      follow-injective t i j hi ki hj kj (injective p (follow s t i) (follow s t j) (a .0) (a .1) (b .0) (b .1) e)
+  repeat-closes zero d l e = rw zero-add at e
+  repeat-closes (suc a) d l e =
+      let f : at s (follow s a i) ≡ at s (follow s (a + d) i) = rw suc-add at e in
+      repeat-closes a d (omega arith)
+      (p .apart (follow s a i) (follow s (a + d) i) (goes a (omega arith)) (inside a (omega arith)) (goes (a + d) (omega arith)) (inside (a + d) (omega arith)) f
+      (λ z. omega (arith, goes (suc a) (omega arith))))
 
-  -- equal positions after a and after b steps: b - a steps lead back
-  repeat-closes : (i a b : ℕ) → 1 ≤ i → i ≤ n → a < b → follow s a i ≡ follow s b i → follow s (b - a) i ≡ i
-  repeat-closes i a b h k l e =
-      let r = follow-range (b - a) i h k in
+  -- its cycle closes within n steps
+  closes-within : (t : ℕ) × (1 ≤ t) × (t ≤ n) × (follow s t i ≡ i)
+  closes-within =
+      let (a, b, l, m, e) = pigeonhole n (λ t. follow s t i) (λ t k. (goes t k, inside t k)) in
       let d : a + (b - a) ≡ b = omega arith in
-      follow-injective a (follow s (b - a) i) i (r .0) (r .1) h k (sym (follow-add s a (b - a) i) ∙ rw d (sym e))
+      (b - a, omega arith, omega arith, sym (repeat-closes a (b - a) (omega arith) (rw d e)))
 
--- a cycle closes within n steps
+-- a permutation is a partial one
+partial : {n : ℕ} {s : List ℕ} → IsPermutation n s → IsPartial n s
+partial p = record {
+  size = p .size;
+  bound = λ i h k. in-range p i h k .1;
+  apart = λ i j hi ki hj kj e _. injective p i j hi ki hj kj e;
+}
+
+follow-range : {n : ℕ} {s : List ℕ} → IsPermutation n s → (t i : ℕ) → 1 ≤ i → i ≤ n → (1 ≤ follow s t i) × (follow s t i ≤ n)
+unfolding follow
+follow-range p zero i h k = (h, k)
+follow-range {n} {s} p (suc t) i h k = let r = follow-range p t i h k in in-range p (follow s t i) (r .0) (r .1)
+
+-- a cycle of it closes within n steps
 pub closes : {n : ℕ} {s : List ℕ} → IsPermutation n s → (i : ℕ) → 1 ≤ i → i ≤ n → (t : ℕ) × (1 ≤ t) × (t ≤ n) × (follow s t i ≡ i)
-closes {n} {s} p i h k =
-    let (a, b, l, m, e) = pigeonhole n (λ t. follow s t i) (λ t _. follow-range p t i h k) in
-    (b - a, omega arith, omega arith, repeat-closes p i a b h k l e)
+closes p i h k = closes-within (partial p) i k (λ t _. follow-range p t i h k .0)
 
 -- what is met from i on a cycle that closes after c steps is met in fewer than c
 module _ (s : List ℕ) (i c : ℕ) (h : 1 ≤ c) (q : follow s c i ≡ i) where
@@ -111,10 +125,12 @@ least-bound s i l (suc t) k =
     let none : tally (λ t. ltb (follow s t i) i) (positions (length s)) ≤ 0 = nltb→le _ _ l in
     ltb-false _ _ (range-none-passes (λ t. ltb (follow s t i) i) 1 (length s) (omega arith) (suc t) (omega arith) (omega arith))
 
-least-low : {n : ℕ} {s : List ℕ} → IsPermutation n s → (i : ℕ) → 1 ≤ i → i ≤ n → T (least s i) → Low s i
+least-low : {n : ℕ} {s : List ℕ} → IsPartial n s → (i : ℕ) → 1 ≤ i → i ≤ n → T (least s i) → Low s i
 least-low {n} {s} p i h k l t =
-    let (u, b, e) = met-within p i h k t in
-    rw e (least-bound s i l u (rw (p .size) b))
+    let low : (u : ℕ) → u ≤ n → i ≤ follow s u i = λ u b. least-bound s i l u (rw (p .size) b) in
+    let (c, lc, mc, q) = closes-within p i k (λ u b. omega (arith, low u b)) in
+    let (u, b, e) = met-before s i c lc q t in
+    rw e (low u (omega arith))
 
 -- the cycle of i holds a position that `least` counts
 pub has-least : {n : ℕ} {s : List ℕ} → IsPermutation n s → (i : ℕ) → 1 ≤ i → i ≤ n → (t : ℕ) × (t ≤ n) × T (least s (follow s t i))
@@ -127,7 +143,7 @@ least-le : {n : ℕ} {s : List ℕ} → IsPermutation n s → (i t u : ℕ) → 
 least-le {n} {s} p i t u h k l =
     let r = follow-range p t i h k in
     let (v, e) = met-from p i h k t u in
-    rw e (least-low p (follow s t i) (r .0) (r .1) l v)
+    rw e (least-low (partial p) (follow s t i) (r .0) (r .1) l v)
 
 -- and only one
 pub one-least : {n : ℕ} {s : List ℕ} → IsPermutation n s → (i t u : ℕ) → 1 ≤ i → i ≤ n
@@ -145,7 +161,7 @@ falls-least s i h k l = omega (arith, least-bound s i l 1 h)
 -- ---- one position more
 
 -- the position x of γ leads in s where it did in γ, straight or through the position m + 1
-data Leads (m : ℕ) (γ s : List ℕ) (x : ℕ) : Type 0 where
+pub data Leads (m : ℕ) (γ s : List ℕ) (x : ℕ) : Type 0 where
   straight : at s x ≡ at γ x → Leads m γ s x
   through : at s x ≡ suc m → at s (suc m) ≡ at γ x → Leads m γ s x
 
@@ -162,63 +178,80 @@ same-test false true f g = absurd (g tt)
 same-test false false f g = refl
 
 -- the cycle of j in γ and in s, which is γ with the position m + 1 added
-module _ {m : ℕ} {γ s : List ℕ} (p : IsPermutation m γ) (leads : (x : ℕ) → 1 ≤ x → x ≤ m → Leads m γ s x) (j : ℕ) (h : 1 ≤ j) (k : j ≤ m) where
-  leads-met : (t : ℕ) → Leads m γ s (follow γ t j)
-  leads-met t = let r = follow-range p t j h k in leads (follow γ t j) (r .0) (r .1)
-
+module _ {m : ℕ} {γ s : List ℕ} (p : IsPartial m γ) (leads : (x : ℕ) → 1 ≤ x → x ≤ m → Leads m γ s x) (j : ℕ) (h : 1 ≤ j) (k : j ≤ m) where
   shorter-step : (t u : ℕ) → follow γ t j ≡ follow s u j → Leads m γ s (follow γ t j) → (v : ℕ) × (follow γ (suc t) j ≡ follow s v j)
   unfolding follow
   shorter-step t u e (straight f) = (suc u, sym f ∙ ap (at s) e)
   shorter-step t u e (through f g) = (suc (suc u), sym g ∙ ap (at s) (sym f ∙ ap (at s) e))
 
-  -- a position met in γ is met in s
-  shorter : (t : ℕ) → (u : ℕ) × (follow γ t j ≡ follow s u j)
+  -- a position met in γ is met in s, where none below j is
+  shorter : Low s j → (t : ℕ) → (follow γ t j ≤ m) × ((u : ℕ) × (follow γ t j ≡ follow s u j))
   unfolding follow
-  shorter zero = (0, refl)
-  shorter (suc t) = let (u, e) = shorter t in shorter-step t u e (leads-met t)
+  shorter low zero = (k, (0, refl))
+  shorter low (suc t) =
+      let (b, (u, e)) = shorter low t in
+      let a : 1 ≤ follow γ t j = omega (arith, low u) in
+      (p .bound (follow γ t j) a b, shorter-step t u e (leads (follow γ t j) a b))
 
   low-shorter : Low s j → Low γ j
-  low-shorter low t = let (u, e) = shorter t in rw e (low u)
+  low-shorter low t = let (_, (u, e)) = shorter low t in rw e (low u)
 
-  longer-old : (u : ℕ) → Leads m γ s (follow γ u j) → Met m γ s j (at s (follow γ u j))
-  unfolding follow
-  longer-old u (straight f) = old (suc u) f
-  longer-old u (through f g) = new (suc u) f g
+  -- and the other way round
+  module _ (low : Low γ j) where
+    met-inside : (t : ℕ) → follow γ t j ≤ m
+    unfolding follow
+    met-inside zero = k
+    met-inside (suc t) = p .bound (follow γ t j) (omega (arith, low t)) (met-inside t)
 
-  longer-step : (x : ℕ) → Met m γ s j x → Met m γ s j (at s x)
-  longer-step x (old u e) = rw e (longer-old u (leads-met u))
-  longer-step x (new u e f) = old u (ap (at s) e ∙ f)
+    longer-old : (u : ℕ) → Leads m γ s (follow γ u j) → Met m γ s j (at s (follow γ u j))
+    unfolding follow
+    longer-old u (straight f) = old (suc u) f
+    longer-old u (through f g) = new (suc u) f g
 
-  -- a position met in s is met in γ, or is m + 1
-  longer : (t : ℕ) → Met m γ s j (follow s t j)
-  unfolding follow
-  longer zero = old 0 refl
-  longer (suc t) = longer-step (follow s t j) (longer t)
+    longer-step : (x : ℕ) → Met m γ s j x → Met m γ s j (at s x)
+    longer-step x (old u e) = rw e (longer-old u (leads (follow γ u j) (omega (arith, low u)) (met-inside u)))
+    longer-step x (new u e f) = old u (ap (at s) e ∙ f)
 
-  met-low : Low γ j → (x : ℕ) → Met m γ s j x → j ≤ x
-  met-low low x (old u e) = rw e (low u)
-  met-low low x (new u e f) = omega arith
+    -- a position met in s is met in γ, or is m + 1
+    longer : (t : ℕ) → Met m γ s j (follow s t j)
+    unfolding follow
+    longer zero = old 0 refl
+    longer (suc t) = longer-step (follow s t j) (longer t)
 
-  low-longer : Low γ j → Low s j
-  low-longer low t = met-low low (follow s t j) (longer t)
+    met-low : (x : ℕ) → Met m γ s j x → j ≤ x
+    met-low x (old u e) = rw e (low u)
+    met-low x (new u e f) = omega arith
 
-  least-same : IsPermutation (suc m) s → least s j ≡ least γ j
+    low-longer : Low s j
+    low-longer t = met-low (follow s t j) (longer t)
+
+  least-same : IsPartial (suc m) s → least s j ≡ least γ j
   least-same q =
       same-test (least s j) (least γ j) (λ l. low-least γ j (low-shorter (least-low q j h (omega arith) l))) (λ l. low-least s j (low-longer (least-low p j h k l)))
 
--- s has as many cycles as γ, and one more where m + 1 is the least position of its cycle
-cycles-longer : {m : ℕ} {γ s : List ℕ} → IsPermutation m γ → IsPermutation (suc m) s → ((x : ℕ) → 1 ≤ x → x ≤ m → Leads m γ s x)
-    → cycles s ≡ cycles γ + one (least s (suc m))
+-- m + 1 is the least position of its cycle just where it leads to itself
+top-least : {m : ℕ} {s : List ℕ} → IsPartial (suc m) s → Dec (at s (suc m) ≡ suc m) → one (least s (suc m)) ≡ one (eqb (at s (suc m)) (suc m))
+top-least {m} {s} q (yes e) = one-true (least s (suc m)) (fixed-least s (suc m) e) ∙ sym (ap one (eq-eqb (at s (suc m)) (suc m) e))
+top-least {m} {s} q (no d) =
+    let falls : at s (suc m) < suc m = omega (arith, q .bound (suc m) (omega arith) (omega arith)) in
+    one-false (least s (suc m)) (falls-least s (suc m) (omega (arith, q .size)) falls) ∙ sym (ap one (ne-eqb (at s (suc m)) (suc m) d))
+
+-- s has as many cycles as γ, and one more where m + 1 leads to itself
+pub cycles-longer : {m : ℕ} {γ s : List ℕ} → IsPartial m γ → IsPartial (suc m) s → ((x : ℕ) → 1 ≤ x → x ≤ m → Leads m γ s x)
+    → cycles s ≡ cycles γ + one (eqb (at s (suc m)) (suc m))
 unfolding cycles tally
 cycles-longer {m} {γ} {s} p q leads =
-    rw (q .size, p .size, tally-positions, tally-range-cong (least s) (least γ) 1 m (λ j h k. least-same p leads j h (omega arith) q))
+    rw (q .size, p .size, tally-positions, tally-range-cong (least s) (least γ) 1 m (λ j h k. least-same p leads j h (omega arith) q), ← top-least q (ℕ-discrete (at s (suc m)) (suc m)))
 
 -- in E(γ) the new position is a cycle of its own
 pub cycles-extend : {m : ℕ} {γ : List ℕ} → IsPermutation m γ → cycles (extend (suc m) γ) ≡ suc (cycles γ)
 cycles-extend {m} {γ} p =
     let s = extend (suc m) γ in
-    let new-least : one (least s (suc m)) ≡ 1 = one-true (least s (suc m)) (fixed-least s (suc m) (at-extend-top γ (p .size))) in
-    omega (arith, cycles-longer p (extend-permutation p) (λ x h k. straight (at-extend-low γ (p .size) x h k)))
+    omega (
+      arith,
+      cycles-longer (partial p) (partial (extend-permutation p)) (λ x h k. straight (at-extend-low γ (p .size) x h k)),
+      ap one (eq-eqb (at s (suc m)) (suc m) (at-extend-top γ (p .size))),
+    )
 
 insert-leads : {m : ℕ} {γ : List ℕ} (i : ℕ) → 1 ≤ i → i ≤ m → IsPermutation m γ → (x : ℕ) → 1 ≤ x → x ≤ m → Dec (x ≡ i) → Leads m γ (insert (suc m) i γ) x
 insert-leads {m} {γ} i h k p x hx kx (yes e) = rw e (through (at-insert-here γ i h k (p .size)) (at-insert-top γ i h k (p .size)))
@@ -228,7 +261,8 @@ insert-leads {m} {γ} i h k p x hx kx (no d) = straight (at-insert-other γ i h 
 pub cycles-insert : {m : ℕ} {γ : List ℕ} (i : ℕ) → 1 ≤ i → i ≤ m → IsPermutation m γ → cycles (insert (suc m) i γ) ≡ cycles γ
 cycles-insert {m} {γ} i h k p =
     let s = insert (suc m) i γ in
-    let q = insert-permutation i h k p in
-    let falls : at s (suc m) < suc m = omega (arith, at-insert-top γ i h k (p .size), in-range p i h k .1) in
-    let new-not : one (least s (suc m)) ≡ 0 = one-false (least s (suc m)) (falls-least s (suc m) (omega (arith, q .size)) falls) in
-    omega (arith, cycles-longer p q (λ x hx kx. insert-leads i h k p x hx kx (ℕ-discrete x i)))
+    omega (
+      arith,
+      cycles-longer (partial p) (partial (insert-permutation i h k p)) (λ x hx kx. insert-leads i h k p x hx kx (ℕ-discrete x i)),
+      ap one (ne-eqb (at s (suc m)) (suc m) (λ e. omega (arith, at-insert-top γ i h k (p .size), in-range p i h k .1))),
+    )

@@ -16,6 +16,12 @@ pub record IsPermutation (n : ℕ) (s : List ℕ) : Type 0 where
   pub size : length s ≡ n
   pub once : (v : ℕ) → 1 ≤ v → v ≤ n → tally (eqb v) s ≡ 1
 
+-- a partial permutation of n: each of n positions has a value 1 to n, or 0 for none, and no value stands at two positions
+pub record IsPartial (n : ℕ) (s : List ℕ) : Type 0 where
+  pub size : length s ≡ n
+  pub bound : (i : ℕ) → 1 ≤ i → i ≤ n → at s i ≤ n
+  pub apart : (i j : ℕ) → 1 ≤ i → i ≤ n → 1 ≤ j → j ≤ n → at s i ≡ at s j → (at s i ≡ 0 → ⊥) → i ≡ j
+
 -- document 02, e)'s trams on their own road: how many values stand at their own position, the number of i with s(i) = i
 unfoldable pub fixed : List ℕ → ℕ
 fixed s = tally (λ i. eqb (at s i) i) (positions (length s))
