@@ -12,7 +12,7 @@ use Rattle.stirling.specs.Refusal.{refuse, unless}
 use Rattle.stirling.specs.Count.{c, countOf, checkCycles, checkPlace}
 use Rattle.stirling.proofs.Counts.{cycles-passes, cycles-passed, fits}
 use Rattle.perm.specs.Lists.{tally, positions}
-use Rattle.perm.specs.Permutation.{IsPermutation, at, fixed, distance}
+use Rattle.perm.specs.Permutation.{IsPermutation, IsPartial, at, fixed, distance}
 use Rattle.perm.specs.Cycle.{cycles}
 use Rattle.perm.specs.Array.{IsArray, IsArrayOf, product, position}
 use Rattle.perm.specs.declared.Array.{Array}
@@ -61,8 +61,8 @@ use Rattle.sequences.specs.Listed.{Made, CompleteLows}
 use Rattle.sequences.proofs.Listed.{lows-cycles, sequences-of, one-list, complete-lows, length-sequences}
 use Rattle.find.specs.Meeting.{meets}
 use Rattle.find.specs.Find.{checkAsked, checkFind, findOf}
-use Rattle.find.specs.Counting.{Sound, closed as closedBy, meeting}
-use Rattle.find.proofs.Counting.{counted, unsound-none}
+use Rattle.find.specs.Counting.{meeting}
+use Rattle.find.proofs.Counting.{counted, none-meets}
 use Rattle.find.proofs.Results as Results
 use Rattle.find.proofs.Cases as Searches
 use Rattle.cursor.specs.declared.Cursor.{Cursor}
@@ -424,17 +424,13 @@ value-twice = Results.value-twice
 pub all-free : (n k place : ℕ) → checkPlace n k place ≡ 0 → findOf n k place (replicate n 0) n ≡ record { refusal = 0; place = place }
 all-free = Results.all-free
 
--- how many permutations of n with k cycles meet wishes: c(m, k − q), where m positions are free and the wishes close q cycles; none where a value is wished twice or
--- above n
-pub count-met : (n k : ℕ) (w : List ℕ) → Sound n w → tally (meets w) (S n k) ≡ meeting n k w
+-- how many permutations of n with k cycles meet wishes: c(m, k − q), where m positions are free and the wishes close q cycles, counted by following; none where a value is
+-- wished twice or above n
+pub count-met : (n k : ℕ) (w : List ℕ) → IsPartial n w → tally (meets w) (S n k) ≡ meeting k w
 count-met = counted
 
-pub count-unsound : (n k : ℕ) (w : List ℕ) → length w ≡ n → (Sound n w → ⊥) → tally (meets w) (S n k) ≡ 0
-count-unsound = unsound-none
-
--- where every position has its value, the cycles that are closed are those of the permutation, counted by following
-pub closed-by-all : {n : ℕ} {s : Row} → IsPermutation n s → closedBy n s ≡ cycles s
-closed-by-all = Results.all-given
+pub count-none : (n k : ℕ) (w : List ℕ) → length w ≡ n → (IsPartial n w → ⊥) → tally (meets w) (S n k) ≡ 0
+count-none = none-meets
 
 -- examples
 pub find-cases : Searches.Table

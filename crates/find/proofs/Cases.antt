@@ -4,11 +4,11 @@ use mathlib.Core.List.{[], _∷_}
 use Rattle.stirling.specs.Count.{c}
 use Rattle.perm.specs.Lists.{tally, range}
 use Rattle.perm.specs.Permutation.{extend, insert}
-use Rattle.perm.specs.Array.{position}
+use Rattle.perm.specs.Cycle.{follow, least, cycles}
 use Rattle.gray.specs.Order.{S, odd, reading, rows, joined, rising, falling, letter, relation, relationA, relationB, relationC, relationD, relationE}
 use Rattle.find.specs.Meeting.{meets, until}
 use Rattle.find.specs.Find.{findOf}
-use Rattle.find.specs.Counting.{closed, meeting}
+use Rattle.find.specs.Counting.{meeting}
 
 pub record Table : Type 0 where
   -- of nothing: the one row meets no wishes
@@ -35,12 +35,12 @@ pub record Table : Type 0 where
   pub slice-long : findOf 4 2 0 (5 ∷ 0 ∷ 2 ∷ 0 ∷ []) 5 ≡ record { refusal = 5; place = 0 }
   pub past-the-end : findOf 4 2 11 (5 ∷ 0 ∷ 2 ∷ []) 5 ≡ record { refusal = 3; place = 0 }
   -- how many rows of S(4,2) meet wishes: value 4 at position 3, value 2 at its own position, and 4 and 1 at positions 1 and 4
-  pub count-four : meeting 4 2 (0 ∷ 0 ∷ 4 ∷ 0 ∷ []) ≡ 3
-  pub count-fixed : meeting 4 2 (0 ∷ 2 ∷ 0 ∷ 0 ∷ []) ≡ 2
-  pub count-pair : meeting 4 2 (4 ∷ 0 ∷ 0 ∷ 1 ∷ []) ≡ 1
+  pub count-four : meeting 2 (0 ∷ 0 ∷ 4 ∷ 0 ∷ []) ≡ 3
+  pub count-fixed : meeting 2 (0 ∷ 2 ∷ 0 ∷ 0 ∷ []) ≡ 2
+  pub count-pair : meeting 2 (4 ∷ 0 ∷ 0 ∷ 1 ∷ []) ≡ 1
 
 pub table : Table
-unfolding c tally range extend insert position S odd reading rows joined rising falling letter relation relationA relationB relationC relationD relationE meets until closed
+unfolding c tally range extend insert follow least cycles S odd reading rows joined rising falling letter relation relationA relationB relationC relationD relationE meets until
 table =
     record {
       nothing = refl;

@@ -1,4 +1,4 @@
--- How many rows of S(n,k) meet sound wishes: c(m, k − q), where m positions are free and the wishes close q cycles. An induction on n by the equation that sums a count over
+-- How many rows of S(n,k) meet wishes that are a partial permutation: c(m, k − q), where m positions are free and the wishes close q cycles. An induction on n by the equation that sums a count over
 -- the blocks, in four cases: n is wished at position n, or at another, or nowhere, and then position n is free, or not. Assumes nothing.
 use mathlib.Core.Path.{_≡_, refl, sym, ap, _∙_}
 use Prim.Native.Nat.{ℕ, zero, suc, _+_, _-_, _*_, _≤_, _<_}
@@ -16,11 +16,10 @@ use Rattle.stirling.specs.Count.{c}
 use Rattle.stirling.proofs.Counts.{recurrence, above, no-cycle}
 use Rattle.stirling.proofs.Refusals.{and-true}
 use Rattle.perm.specs.Lists.{one, tally, range}
-use Rattle.perm.specs.Permutation.{IsPermutation, at, put, extend, insert}
-use Rattle.perm.specs.Array.{position}
+use Rattle.perm.specs.Permutation.{IsPermutation, IsPartial, at, put, extend, insert}
+use Rattle.perm.specs.Cycle.{cycles, least}
 use Rattle.perm.proofs.Tally.{refuted, none-passes, some-passes}
 use Rattle.perm.proofs.Values.{injective, onto, at-suc}
-use Rattle.perm.proofs.ArrayOf.{position-first}
 use Rattle.gray.specs.Order.{Row, S}
 use Rattle.gray.specs.Listing.{rowAt}
 use Rattle.gray.proofs.Same.{iff-equal}
@@ -30,9 +29,10 @@ use Rattle.gray.proofs.Counting.{tally-S, tally-empty}
 use Rattle.gray.proofs.Once.{complete, tally-agree}
 use Rattle.rank.proofs.Grown.{grown-insert, grown-extend}
 use Rattle.find.specs.Meeting.{granted, meets}
-use Rattle.find.specs.Counting.{Sound, smaller, free, closed, meeting}
-use Rattle.find.proofs.Meeting.{granted-free, granted-same, granted-true, granted-false, both-true, meets-holds, meets-at, met-sound}
-use Rattle.find.proofs.Shorter.{length-smaller, smaller-here, smaller-other, tally-smaller, smaller-sound, meets-grown}
+use Rattle.find.specs.Counting.{free, meeting}
+use Rattle.find.specs.Search.{smaller}
+use Rattle.find.proofs.Meeting.{granted-free, granted-same, granted-true, granted-false, both-true, meets-holds, meets-at, met-partial}
+use Rattle.find.proofs.Shorter.{length-smaller, smaller-here, smaller-other, tally-smaller, smaller-partial, cycles-smaller, meets-grown}
 use Rattle.find.proofs.Sums.{tally-and, sum-cong, sum-tally, sum-zeros}
 
 -- c(m, k − q), and nothing where k < q
@@ -70,38 +70,20 @@ left-recurrence m q k =
         rw (e, no-cycle (suc m) (omega arith)) (omega (arith, no-cycle-times m))
     past h false t = omega (arith, mul-zero m)
 
--- no row meets wishes that are not sound
-pub unsound-none : (n k : ℕ) (w : List ℕ) → length w ≡ n → (Sound n w → ⊥) → tally (meets w) (S n k) ≡ 0
-unsound-none n k w size d = by-count (tally (meets w) (S n k)) refl
+-- no row meets wishes that are not
+pub none-meets : (n k : ℕ) (w : List ℕ) → length w ≡ n → (IsPartial n w → ⊥) → tally (meets w) (S n k) ≡ 0
+none-meets n k w size d = by-count (tally (meets w) (S n k)) refl
   where
     by-count : (t : ℕ) → tally (meets w) (S n k) ≡ t → t ≡ 0
     by-count zero e = refl
     by-count (suc t) e =
         let (r, h, m) = some-passes (meets w) [] (S n k) (omega arith) in
-        absurd (d (met-sound w (rowAt (S n k) r) size (complete n k .sound r h .permutation) m))
+        absurd (d (met-partial w (rowAt (S n k) r) size (complete n k .sound r h .permutation) m))
 
--- a value that no position wishes is looked for to the end
-position-absent : (v : ℕ) (s : List ℕ) → ((j : ℕ) → j < length s → v ≡ getD s j 0 → ⊥) → position v s ≡ length s
-unfolding position
-position-absent v [] d = refl
-position-absent v (x ∷ s) d = rw (ne-eqb v x (d 0 (omega arith)), position-absent v s (λ j k. d (suc j) (omega arith)))
-
--- where m + 1 is wished, in sound wishes of m + 1 positions
-module _ {m : ℕ} {w : List ℕ} (s : Sound (suc m) w) where
-  pub wanted-at : (x : ℕ) → 1 ≤ x → x ≤ suc m → at w x ≡ suc m → position (suc m) w ≡ x
-  wanted-at x l u e =
-      let z = s .size in
-      position-first (suc m) w (x - 1) (omega arith) (sym e)
-      (λ j h f. let q = s .apart x (suc j) l u (omega arith) (omega arith) (e ∙ f ∙ sym (at-suc w j)) (λ o. omega arith) in omega arith)
-      ∙ omega arith
-
-  wanted-once : (x : ℕ) → 1 ≤ x → x ≤ suc m → at w x ≡ suc m → (i : ℕ) → 1 ≤ i → i ≤ suc m → at w i ≡ suc m → i ≡ x
-  wanted-once x l u e i li ui f = s .apart i x li ui l u (f ∙ sym e) (λ o. omega arith)
-
-  pub wanted-nowhere : ((i : ℕ) → 1 ≤ i → i ≤ suc m → at w i ≡ suc m → ⊥) → position (suc m) w ≡ suc m
-  wanted-nowhere none =
-      let z = s .size in
-      position-absent (suc m) w (λ j h e. none (suc j) (omega arith) (omega arith) (at-suc w j ∙ sym e)) ∙ z
+-- m + 1 is wished at one position at most
+wanted-once : {m : ℕ} {w : List ℕ} → IsPartial (suc m) w
+    → (x : ℕ) → 1 ≤ x → x ≤ suc m → at w x ≡ suc m → (i : ℕ) → 1 ≤ i → i ≤ suc m → at w i ≡ suc m → i ≡ x
+wanted-once s x l u e i li ui f = s .apart i x li ui l u (f ∙ sym e) (λ o. omega arith)
 
 -- what the wishes count in the insertions and in the extensions
 module _ {m : ℕ} (w : List ℕ) (size : length w ≡ suc m) where
@@ -133,10 +115,10 @@ module _ {m : ℕ} (w : List ℕ) (size : length w ≡ suc m) where
       → cond (granted (at w x) (suc m)) (tally (meets (smaller m x w)) (S m k)) 0 ≡ 0
   elsewhere k x y lx ux ly uy d e =
       cases (granted (at w x) (suc m))
-      (λ t. rw t (unsound-none m k (smaller m x w) (length-smaller w size x lx ux) (λ s. left-over s (ℕ-discrete y (suc m)))))
+      (λ t. rw t (none-meets m k (smaller m x w) (length-smaller w size x lx ux) (λ s. left-over s (ℕ-discrete y (suc m)))))
       (λ f. rw f)
     where
-      left-over : Sound m (smaller m x w) → Dec (y ≡ suc m) → ⊥
+      left-over : IsPartial m (smaller m x w) → Dec (y ≡ suc m) → ⊥
       left-over s (yes q) =
           let h : x ≤ m = omega arith in
           omega (arith, smaller-here w size x lx ux h, s .bound x lx h, ap (at w) q)
@@ -164,42 +146,38 @@ where-wanted m w z = by-count (tally (eqb (suc m)) w) refl
         by-index i h (sym (eqb-true (suc m) (getD w i 0) f)) (ℕ-discrete i m)
 
 -- by the four cases, with the statement for m at hand
-module _ (m : ℕ) (shorter : (k : ℕ) (w : List ℕ) → Sound m w → tally (meets w) (S m k) ≡ meeting m k w)
-    (w : List ℕ) (s : Sound (suc m) w) (k : ℕ) where
+module _ (m : ℕ) (shorter : (k : ℕ) (w : List ℕ) → IsPartial m w → tally (meets w) (S m k) ≡ meeting k w)
+    (w : List ℕ) (s : IsPartial (suc m) w) (k : ℕ) where
   abbrev n : ℕ
   n = suc m
 
   abbrev Counts : Type 0
-  Counts = tally (meets w) (S n (suc k)) ≡ meeting n (suc k) w
+  Counts = tally (meets w) (S n (suc k)) ≡ meeting (suc k) w
 
   -- what the blocks count is what is counted of the free positions, where these are f, and the cycles closed q
   counts : (a b f q : ℕ)
       → sum (λ i. tally (λ γ. meets w (insert n i γ)) (S m (suc k))) m ≡ a
       → tally (λ γ. meets w (extend n γ)) (S m k) ≡ b
       → free w ≡ f
-      → closed n w ≡ q
+      → cycles w ≡ q
       → a + b ≡ left f q (suc k)
       → Counts
   counts a b f q ea eb ef eq e = tally-S (meets w) m k ∙ rw (ea, eb, ef, eq) e
-
-  -- the cycles closed, by the position x that wishes n, or the last
-  closed-by : (x : ℕ) → position n w ≡ x → closed n w ≡ one (eqb (at w n) n) + closed m (smaller m x w)
-  unfolding closed
-  closed-by x e = ap (λ (y : ℕ). one (eqb (at w n) n) + closed m (smaller m y w)) e
 
   -- n is wished at position n: each row extends one that meets the other wishes
   at-last : at w n ≡ n → Counts
   at-last e =
       let z = s .size in
       let u = smaller m n w in
-      let su = smaller-sound w z n (omega arith) (omega arith) s (wanted-once s n (omega arith) (omega arith) e) in
-      counts 0 (meeting m k u) (free u) (suc (closed m u))
+      let only = wanted-once s n (omega arith) (omega arith) e in
+      let su = smaller-partial w z n (omega arith) (omega arith) s only in
+      counts 0 (meeting k u) (free u) (suc (cycles u))
       (sum-zero _ m
       (λ i l h. inserted w z (suc k) i l h ∙ elsewhere w z (suc k) i n l (omega arith) (omega arith) (omega arith) (λ q. omega arith) e))
       (extended w z k ∙ rw (granted-same (at w n) n e) (shorter k u su))
       (omega (arith, tally-smaller w z n (omega arith) (omega arith) (eqb 0), ap one (ne-eqb 0 (at w n) (λ o. omega arith))))
-      (closed-by n (wanted-at s n (omega arith) (omega arith) e) ∙ rw (eq-eqb (at w n) n e) (omega arith))
-      (omega (arith, left-suc (free u) (closed m u) k))
+      (omega (arith, cycles-smaller w z n (omega arith) (omega arith) s only (λ h. absurd (omega arith)), ap one (eq-eqb (at w n) n e)))
+      (omega (arith, left-suc (free u) (cycles u) k))
 
   -- at another position x: each row inserts it there
   at-other : (x : ℕ) → 1 ≤ x → x ≤ m → at w x ≡ n → Counts
@@ -207,14 +185,15 @@ module _ (m : ℕ) (shorter : (k : ℕ) (w : List ℕ) → Sound m w → tally (
       let z = s .size in
       let v : x ≤ n = omega arith in
       let u = smaller m x w in
-      let su = smaller-sound w z x l v s (wanted-once s x l v e) in
-      let d : at w n ≡ n → ⊥ = λ f. let q = wanted-once s x l v e n (omega arith) (omega arith) f in omega arith in
-      counts (meeting m (suc k) u) 0 (free u) (closed m u)
+      let only = wanted-once s x l v e in
+      let su = smaller-partial w z x l v s only in
+      let d : at w n ≡ n → ⊥ = λ f. let q = only n (omega arith) (omega arith) f in omega arith in
+      counts (meeting (suc k) u) 0 (free u) (cycles u)
       (sum-one _ m x l h (λ j lj hj g. inserted w z (suc k) j lj hj ∙ elsewhere w z (suc k) j x lj (omega arith) l v g e)
       ∙ inserted w z (suc k) x l h ∙ rw (granted-same (at w x) n e) (shorter (suc k) u su))
       (extended w z k ∙ elsewhere w z k n x (omega arith) (omega arith) l v (λ q. omega arith) e)
       (omega (arith, tally-smaller w z x l v (eqb 0), ap one (ne-eqb 0 (at w x) (λ o. omega arith))))
-      (closed-by x (wanted-at s x l v e) ∙ rw (ne-eqb (at w n) n d) (omega arith))
+      (omega (arith, cycles-smaller w z x l v s only (λ _. e), ap one (ne-eqb (at w n) n d)))
       (omega arith)
 
   -- nowhere: the other positions keep their wishes
@@ -222,8 +201,8 @@ module _ (m : ℕ) (shorter : (k : ℕ) (w : List ℕ) → Sound m w → tally (
     abbrev u : List ℕ
     u = smaller m n w
 
-    u-sound : Sound m u
-    u-sound = smaller-sound w (s .size) n (omega arith) (omega arith) s (λ i l h e. absurd (none i l h e))
+    u-partial : IsPartial m u
+    u-partial = smaller-partial w (s .size) n (omega arith) (omega arith) s (λ i l h e. absurd (none i l h e))
 
     u-at : (i : ℕ) → 1 ≤ i → i ≤ m → at u i ≡ at w i
     u-at i l h = smaller-other w (s .size) n (omega arith) (omega arith) i l h (λ q. omega arith)
@@ -231,10 +210,13 @@ module _ (m : ℕ) (shorter : (k : ℕ) (w : List ℕ) → Sound m w → tally (
     is-front : u ≡ take m w
     is-front = ap (take m) (set-getD w (n - 1) 0)
 
-    u-closed : closed n w ≡ closed m u
-    u-closed =
-        closed-by n (wanted-nowhere s none)
-        ∙ rw (ne-eqb (at w n) n (none n (omega arith) (omega arith))) (omega arith)
+    u-cycles : cycles w ≡ cycles u
+    u-cycles =
+        omega (
+          arith,
+          cycles-smaller w (s .size) n (omega arith) (omega arith) s (λ i l h e. absurd (none i l h e)) (λ h. absurd (omega arith)),
+          ap one (ne-eqb (at w n) n (none n (omega arith) (omega arith))),
+        )
 
     -- a free position alone grants n
     grants : (i : ℕ) → 1 ≤ i → i ≤ n → granted (at w i) n ≡ eqb 0 (at w i)
@@ -249,14 +231,14 @@ module _ (m : ℕ) (shorter : (k : ℕ) (w : List ℕ) → Sound m w → tally (
     top-free e =
         let z = s .size in
         let f : free w ≡ suc (free u) = omega (arith, tally-smaller w z n (omega arith) (omega arith) (eqb 0), ap one (eq-eqb 0 (at w n) (sym e))) in
-        counts (free u * meeting m (suc k) u) (meeting m k u) (suc (free u)) (closed m u)
+        counts (free u * meeting (suc k) u) (meeting k u) (suc (free u)) (cycles u)
         (sum-cong _ (λ i. cond (eqb 0 (at w i)) (tally (meets u) (S m (suc k))) 0) m each
         ∙ sum-zeros w (tally (meets u) (S m (suc k))) m (omega arith)
-        ∙ rw (← is-front, shorter (suc k) u u-sound))
-        (extended w z k ∙ rw (granted-free (at w n) n e) (shorter k u u-sound))
+        ∙ rw (← is-front, shorter (suc k) u u-partial))
+        (extended w z k ∙ rw (granted-free (at w n) n e) (shorter k u u-partial))
         f
-        u-closed
-        (left-recurrence (free u) (closed m u) k)
+        u-cycles
+        (left-recurrence (free u) (cycles u) k)
       where
         -- a free position that gets the wish of a free one
         same-left : (i : ℕ) → at w i ≡ 0 → smaller m i w ≡ u
@@ -302,7 +284,7 @@ module _ (m : ℕ) (shorter : (k : ℕ) (w : List ℕ) → Sound m w → tally (
           to-front γ y l h t =
               let (here, rest) = and-true (granted (at w y) n) (meets (smaller m y w) γ) t in
               let free-there : at w y ≡ 0 = sym (eqb-true 0 (at w y) (sym (grants y l (omega arith)) ∙ here)) in
-              meets-holds u γ (λ i li hi. by-position y l h free-there (meets-at (smaller m y w) γ rest) i li (rw (u-sound .size) at hi) (ℕ-discrete i y))
+              meets-holds u γ (λ i li hi. by-position y l h free-there (meets-at (smaller m y w) γ rest) i li (rw (u-partial .size) at hi) (ℕ-discrete i y))
             where
               by-position : (y : ℕ) (l : 1 ≤ y) (h : y ≤ m) → at w y ≡ 0
                   → ((i : ℕ) → 1 ≤ i → i ≤ length (smaller m y w) → granted (at (smaller m y w) i) (at γ i) ≡ true)
@@ -315,7 +297,7 @@ module _ (m : ℕ) (shorter : (k : ℕ) (w : List ℕ) → Sound m w → tally (
           from-front : (γ : Row) (y : ℕ) → 1 ≤ y → y ≤ m → at γ y ≡ at w n → meets u γ ≡ true → (granted (at w y) n && meets (smaller m y w) γ) ≡ true
           from-front γ y l h ey t =
               let each = meets-at u γ t in
-              let free-there : at w y ≡ 0 = is-free y l h ey (rw (u-at y l h) at (each y l (rw (u-sound .size) h))) (ℕ-discrete (at w y) 0) in
+              let free-there : at w y ≡ 0 = is-free y l h ey (rw (u-at y l h) at (each y l (rw (u-partial .size) h))) (ℕ-discrete (at w y) 0) in
               both-true _ _ (granted-free (at w y) n free-there)
               (meets-holds (smaller m y w) γ (λ i li hi.
               by-position y l h ey each i li (rw (length-smaller w (s .size) y l (omega arith)) at hi) (ℕ-discrete i y)))
@@ -332,18 +314,18 @@ module _ (m : ℕ) (shorter : (k : ℕ) (w : List ℕ) → Sound m w → tally (
               by-position y l h ey each i li hi (yes q) =
                   granted-same _ (at γ i) (ap (at (smaller m y w)) q ∙ smaller-here w (s .size) y l (omega arith) h ∙ sym ey ∙ ap (at γ) (sym q))
               by-position y l h ey each i li hi (no g) =
-                  rw (smaller-other w (s .size) y l (omega arith) i li hi g, ← u-at i li hi) (each i li (rw (u-sound .size) hi))
+                  rw (smaller-other w (s .size) y l (omega arith) i li hi g, ← u-at i li hi) (each i li (rw (u-partial .size) hi))
 
       top-taken : Counts
       top-taken =
           let z = s .size in
-          counts (meeting m (suc k) u) 0 (free u) (closed m u)
+          counts (meeting (suc k) u) 0 (free u) (cycles u)
           (sum-tally (λ i γ. meets w (insert n i γ)) (meets u) m (S m (suc k))
           (λ r h. at-value (rowAt (S m (suc k)) r) (complete m (suc k) .sound r h .permutation))
-          ∙ shorter (suc k) u u-sound)
+          ∙ shorter (suc k) u u-partial)
           (extended w z k ∙ rw (granted-false (at w n) n d (none n (omega arith) (omega arith))))
           (omega (arith, tally-smaller w z n (omega arith) (omega arith) (eqb 0), ap one (ne-eqb 0 (at w n) (λ e. d (sym e)))))
-          u-closed
+          u-cycles
           (omega arith)
 
   by-where : Where m w → Counts
@@ -355,42 +337,45 @@ module _ (m : ℕ) (shorter : (k : ℕ) (w : List ℕ) → Sound m w → tally (
       by-top (yes e) = top-free none e
       by-top (no d) = top-taken none d
 
--- without m + 1, sound wishes are sound
-next-sound : {m : ℕ} {w : List ℕ} → Sound (suc m) w
-    → (1 ≤ position (suc m) w) × (position (suc m) w ≤ suc m) × Sound m (smaller m (position (suc m) w) w)
-next-sound {m} {w} s = by-where (where-wanted m w (s .size))
+-- m + 1 taken away at the position that wishes it, or at the last, where none does
+taken-away : {m : ℕ} {w : List ℕ} → IsPartial (suc m) w
+    → (x : ℕ) × (1 ≤ x) × (x ≤ suc m) × IsPartial m (smaller m x w) × (cycles w ≡ cycles (smaller m x w) + one (eqb (at w (suc m)) (suc m)))
+taken-away {m} {w} s = by-where (where-wanted m w (s .size))
   where
-    at-position : (x : ℕ) → position (suc m) w ≡ x → 1 ≤ x → x ≤ suc m
-        → ((i : ℕ) → 1 ≤ i → i ≤ suc m → at w i ≡ suc m → i ≡ x)
-        → (1 ≤ position (suc m) w) × (position (suc m) w ≤ suc m) × Sound m (smaller m (position (suc m) w) w)
-    at-position x e l u only = rw e (l, u, smaller-sound w (s .size) x l u s only)
+    at-position : (x : ℕ) → 1 ≤ x → x ≤ suc m → ((i : ℕ) → 1 ≤ i → i ≤ suc m → at w i ≡ suc m → i ≡ x) → (x ≤ m → at w x ≡ suc m)
+        → (x : ℕ) × (1 ≤ x) × (x ≤ suc m) × IsPartial m (smaller m x w) × (cycles w ≡ cycles (smaller m x w) + one (eqb (at w (suc m)) (suc m)))
+    at-position x l u only here = (x, l, u, smaller-partial w (s .size) x l u s only, cycles-smaller w (s .size) x l u s only here)
 
-    by-where : Where m w → (1 ≤ position (suc m) w) × (position (suc m) w ≤ suc m) × Sound m (smaller m (position (suc m) w) w)
-    by-where (last e) = at-position (suc m) (wanted-at s (suc m) (omega arith) (omega arith) e) (omega arith) (omega arith) (wanted-once s (suc m) (omega arith) (omega arith) e)
-    by-where (other x l h e) = at-position x (wanted-at s x l (omega arith) e) l (omega arith) (wanted-once s x l (omega arith) e)
-    by-where (nowhere none) = at-position (suc m) (wanted-nowhere s none) (omega arith) (omega arith) (λ i l u e. absurd (none i l u e))
+    by-where : Where m w
+        → (x : ℕ) × (1 ≤ x) × (x ≤ suc m) × IsPartial m (smaller m x w) × (cycles w ≡ cycles (smaller m x w) + one (eqb (at w (suc m)) (suc m)))
+    by-where (last e) = at-position (suc m) (omega arith) (omega arith) (wanted-once s (suc m) (omega arith) (omega arith) e) (λ _. e)
+    by-where (other x l h e) = at-position x l (omega arith) (wanted-once s x l (omega arith) e) (λ _. e)
+    by-where (nowhere none) = at-position (suc m) (omega arith) (omega arith) (λ i l u e. absurd (none i l u e)) (λ h. absurd (omega arith))
 
 -- some position is free, or some cycle is closed
-some-cycle : (m : ℕ) (w : List ℕ) → Sound (suc m) w → 1 ≤ closed (suc m) w + free w
-unfolding closed
-some-cycle zero w s = by-entry (ℕ-discrete (at w 1) 1)
+some-cycle : (m : ℕ) (w : List ℕ) → IsPartial (suc m) w → 1 ≤ cycles w + free w
+some-cycle zero w s =
+    let (x, l, u, next, e) = taken-away s in
+    let z = tally-smaller w (s .size) x l u (eqb 0) in
+    by-entry x l u e z (ℕ-discrete (at w 1) 1)
   where
-    by-entry : Dec (at w 1 ≡ 1) → 1 ≤ one (eqb (at w 1) 1) + 0 + free w
-    by-entry (yes e) = omega (arith, ap one (eq-eqb (at w 1) 1 e))
-    by-entry (no d) =
-        let z : at w 1 ≡ 0 = omega (arith, s .bound 1 (omega arith) (omega arith)) in
-        omega (arith, tally-smaller w (s .size) 1 (omega arith) (omega arith) (eqb 0), ap one (eq-eqb 0 (at w 1) (sym z)))
+    by-entry : (x : ℕ) → 1 ≤ x → x ≤ 1 → cycles w ≡ cycles (smaller 0 x w) + one (eqb (at w 1) 1) → free (smaller 0 x w) + one (eqb 0 (at w x)) ≡ free w
+        → Dec (at w 1 ≡ 1) → 1 ≤ cycles w + free w
+    by-entry x l u e z (yes f) = omega (arith, ap one (eq-eqb (at w 1) 1 f))
+    by-entry x l u e z (no d) =
+        let first : x ≡ 1 = omega arith in
+        let none : 0 ≡ at w x = sym (ap (at w) first ∙ omega (arith, s .bound 1 (omega arith) (omega arith))) in
+        omega (arith, ap one (eq-eqb 0 (at w x) none))
 some-cycle (suc m) w s =
-    let (l, u, next) = next-sound s in
-    let x = position (suc (suc m)) w in
+    let (x, l, u, next, e) = taken-away s in
     omega (arith, some-cycle m (smaller (suc m) x w) next, tally-smaller w (s .size) x l u (eqb 0))
 
 -- for all sizes
-pub counted : (n k : ℕ) (w : List ℕ) → Sound n w → tally (meets w) (S n k) ≡ meeting n k w
-unfolding S tally meets closed c range
+pub counted : (n k : ℕ) (w : List ℕ) → IsPartial n w → tally (meets w) (S n k) ≡ meeting k w
+unfolding S tally meets cycles least c range
 counted zero zero [] s = refl
 counted zero (suc k) [] s = rw (le-leb 0 (suc k) (omega arith)) (sym (above 0 (suc k - 0) (omega arith)))
 counted zero k (x ∷ w) s = absurd (omega (arith, s .size))
 counted (suc m) zero w s =
-    tally-empty (meets w) (S-zero (suc m) (omega arith)) ∙ sym (left-none (free w) (closed (suc m) w) (some-cycle m w s))
+    tally-empty (meets w) (S-zero (suc m) (omega arith)) ∙ sym (left-none (free w) (cycles w) (some-cycle m w s))
 counted (suc m) (suc k) w s = by-where m (counted m) w s k (where-wanted m w (s .size))

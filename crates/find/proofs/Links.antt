@@ -7,18 +7,17 @@ use mathlib.Core.List.{List}
 use lib.Dec.{eqb}
 use lib.ListN.{length, getD, set, length-set}
 use lib.Seq.{getD-set-same, getD-set-other, set-getD}
-use Rattle.perm.specs.Lists.{one}
-use Rattle.perm.specs.Permutation.{at}
-use Rattle.perm.specs.Array.{position}
+use Rattle.perm.specs.Lists.{one, tally, range}
+use Rattle.perm.specs.Permutation.{IsPartial, at}
+use Rattle.perm.specs.Cycle.{cycles}
 use Rattle.perm.proofs.Search.{one-bound}
-use Rattle.find.specs.Counting.{Sound, smaller, closed}
 use Rattle.find.specs.Search.{patternOf, Points, Linked}
-use Rattle.find.proofs.Counting.{wanted-at, wanted-nowhere}
+use Rattle.find.proofs.Shorter.{cycles-smaller}
 use Rattle.find.proofs.Patterns.{length-pattern, pattern-at, pattern-none, pattern-left}
 
--- linked wishes are sound
-pub linked-sound : {n : ℕ} (w p : List ℕ) → n < length w → Linked n w p → Sound n (patternOf n w)
-linked-sound {n} w p h k = record {
+-- linked wishes are a partial permutation
+pub linked-partial : {n : ℕ} (w p : List ℕ) → n < length w → Linked n w p → IsPartial n (patternOf n w)
+linked-partial {n} w p h k = record {
   size = length-pattern n w h;
   bound = λ i l u. rw (pattern-at n w i l u) (by-entry i l u (ℕ-discrete (getD w i 0) 0));
   apart = λ i j li ui lj uj e d.
@@ -70,47 +69,50 @@ unlinked m w p hw hp k = record {
 
 -- and the cycles that the wishes close are those that are left to close, and one where the last position wishes itself
 module _ (m : ℕ) (w p : List ℕ) (h : suc m < length w) (k : Linked (suc m) w p) where
-  last-closed : (y : ℕ) → 1 ≤ y → y ≤ suc m → position (suc m) (patternOf (suc m) w) ≡ y
-      → closed (suc m) (patternOf (suc m) w) ≡ one (eqb (getD w (suc m) 0) (suc m)) + closed m (patternOf m (set w y (getD w (suc m) 0)))
-  unfolding closed
-  last-closed y l u e =
-      let a = patternOf (suc m) w in
-      rw e
-      (ap (λ (v : ℕ). one (eqb v (suc m)) + closed m (smaller m y a)) (pattern-at (suc m) w (suc m) (omega arith) (omega arith))
-      ∙ ap (λ (b : List ℕ). one (eqb (getD w (suc m) 0) (suc m)) + closed m b) (sym (pattern-left m w y l u)))
+  abbrev a : List ℕ
+  a = patternOf (suc m) w
 
-  pub unlinked-closed : closed (suc m) (patternOf (suc m) w)
-      ≡ one (eqb (getD w (suc m) 0) (suc m)) + closed m (patternOf m (set w (getD p (suc m) 0) (getD w (suc m) 0)))
+  -- the position that wishes the last value, if one does
+  wished : (i : ℕ) → 1 ≤ i → i ≤ suc m → at a i ≡ suc m → i ≡ getD p (suc m) 0
+  wished i l u e =
+      let is : getD w i 0 ≡ suc m = sym (pattern-at (suc m) w i l u) ∙ e in
+      sym (k .values i l u (λ z. omega arith) .1) ∙ ap (λ (v : ℕ). getD p v 0) is
+
+  last-closed : (y : ℕ) → 1 ≤ y → y ≤ suc m → ((i : ℕ) → 1 ≤ i → i ≤ suc m → at a i ≡ suc m → i ≡ y) → (y ≤ m → at a y ≡ suc m)
+      → cycles a ≡ one (eqb (getD w (suc m) 0) (suc m)) + cycles (patternOf m (set w y (getD w (suc m) 0)))
+  last-closed y l u only here =
+      omega (
+        arith,
+        cycles-smaller a (length-pattern (suc m) w h) y l u (linked-partial w p h k) only here,
+        ap (λ (v : ℕ). one (eqb v (suc m))) (pattern-at (suc m) w (suc m) (omega arith) (omega arith)),
+        ap cycles (pattern-left m w y l u),
+      )
+
+  pub unlinked-closed : cycles a ≡ one (eqb (getD w (suc m) 0) (suc m)) + cycles (patternOf m (set w (getD p (suc m) 0) (getD w (suc m) 0)))
   unlinked-closed = by-position (ℕ-discrete (getD p (suc m) 0) 0)
     where
-      by-position : Dec (getD p (suc m) 0 ≡ 0) → closed (suc m) (patternOf (suc m) w)
-          ≡ one (eqb (getD w (suc m) 0) (suc m)) + closed m (patternOf m (set w (getD p (suc m) 0) (getD w (suc m) 0)))
+      by-position : Dec (getD p (suc m) 0 ≡ 0) → cycles a ≡ one (eqb (getD w (suc m) 0) (suc m)) + cycles (patternOf m (set w (getD p (suc m) 0) (getD w (suc m) 0)))
       by-position (yes e) =
-          let none : (i : ℕ) → 1 ≤ i → i ≤ suc m → at (patternOf (suc m) w) i ≡ suc m → ⊥ = λ i l u f.
-          let is : getD w i 0 ≡ suc m = sym (pattern-at (suc m) w i l u) ∙ f in
-          let back = k .values i l u (λ z. omega arith) .1 in
-          omega (arith, ap (λ (j : ℕ). getD p j 0) is) in
-          last-closed (suc m) (omega arith) (omega arith) (wanted-nowhere (linked-sound w p h k) none)
+          last-closed (suc m) (omega arith) (omega arith) (λ i l u f. absurd (omega (arith, wished i l u f))) (λ o. absurd (omega arith))
           ∙ rw (set-getD w (suc m) 0, e, pattern-none m w (getD w (suc m) 0))
       by-position (no d) =
           let y = getD p (suc m) 0 in
           let (u, is) = k .positions (suc m) (omega arith) (omega arith) d in
-          last-closed y (omega arith) u
-          (wanted-at (linked-sound w p h k) y (omega arith) u (pattern-at (suc m) w y (omega arith) u ∙ is))
+          last-closed y (omega arith) u wished (λ _. pattern-at (suc m) w y (omega arith) u ∙ is)
 
 -- taking away position after position: the cycles counted, and those that the wishes of the first m positions close, are all
 pub record Closing (n : ℕ) (w₀ w p : List ℕ) (count m : ℕ) : Type 0 where
   pub small : m ≤ 20
   pub sizes : (length w ≡ 21) × (length p ≡ 21)
   pub linked : Linked m w p
-  pub counted : count + closed m (patternOf m w) ≡ closed n (patternOf n w₀)
+  pub counted : count + cycles (patternOf m w) ≡ cycles (patternOf n w₀)
   pub few : count + m ≤ 20
 
 pub closing-begins : {n : ℕ} {w p : List ℕ} → n ≤ 20 → length w ≡ 21 → length p ≡ 21 → Linked n w p → Closing n w w p 0 n
 closing-begins h zw zp k = record { small = h; sizes = (zw, zp); linked = k; counted = omega arith; few = omega arith }
 
-pub closing-ends : {n : ℕ} {w₀ w p : List ℕ} {count : ℕ} → Closing n w₀ w p count 0 → count ≡ closed n (patternOf n w₀)
-unfolding closed
+pub closing-ends : {n : ℕ} {w₀ w p : List ℕ} {count : ℕ} → Closing n w₀ w p count 0 → count ≡ cycles (patternOf n w₀)
+unfolding cycles tally range
 closing-ends c = omega (arith, c .counted)
 
 -- where the last wishes itself, one more is counted

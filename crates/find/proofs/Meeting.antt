@@ -10,12 +10,11 @@ use lib.ListN.{length}
 use borrow.Table.Steps.{cases}
 use borrow.Author.Tests.{eqb-true, eq-eqb, ne-eqb, le-ltb, ltb-false, not-true, not-false}
 use Rattle.perm.specs.Lists.{tally, positions}
-use Rattle.perm.specs.Permutation.{IsPermutation, at}
+use Rattle.perm.specs.Permutation.{IsPermutation, IsPartial, at}
 use Rattle.perm.proofs.Tally.{range-none-passes, range-tally-none}
 use Rattle.perm.proofs.Values.{in-range, injective}
 use Rattle.gray.specs.Order.{Row}
 use Rattle.find.specs.Meeting.{granted, meets}
-use Rattle.find.specs.Counting.{Sound}
 
 -- a free position grants any value
 pub granted-free : (entry value : ℕ) → entry ≡ 0 → granted entry value ≡ true
@@ -62,8 +61,8 @@ module _ {n : ℕ} (w : List ℕ) (s : Row) (size : length w ≡ n) (p : IsPermu
   pub met-at : (i : ℕ) → 1 ≤ i → i ≤ n → (at w i ≡ 0 → ⊥) → at w i ≡ at s i
   met-at i l u d = granted-true (at w i) (at s i) (meets-at w s m i l (omega arith)) d
 
-  pub met-sound : Sound n w
-  met-sound = record {
+  pub met-partial : IsPartial n w
+  met-partial = record {
     size = size;
     bound = λ i l u. by-entry i l u (ℕ-discrete (at w i) 0);
     apart = λ i j li ui lj uj e d.

@@ -10,8 +10,9 @@ use lib.ListN.{length, getD, set, drop, replicate, length-set, length-drop, getD
 use lib.Seq.{take-suc, getD-drop, getD-set-same, getD-set-other}
 use borrow.Author.Tests.{eq-eqb, ne-eqb}
 use Rattle.perm.specs.Lists.{one, tally}
+use Rattle.perm.specs.Permutation.{IsPartial}
 use Rattle.perm.proofs.Tally.{tally-append}
-use Rattle.find.specs.Counting.{Sound, free}
+use Rattle.find.specs.Counting.{free}
 use Rattle.find.specs.Search.{patternOf, AreByValue}
 use Rattle.find.proofs.Patterns.{pattern-at}
 
@@ -47,12 +48,12 @@ module _ {n : ℕ} {w : List ℕ} {i f : ℕ} {p : List ℕ} (small : n ≤ 20) 
       rw (e, take-suc (drop 1 w) (i - 1) 0 (omega (arith, length-drop 1 w)), tally-append (eqb 0) (patternOf (i - 1) w) (getD (drop 1 w) (i - 1) 0 ∷ []), getD-drop 1 w (i - 1) 0, f)
       (omega arith)
 
-  -- a wish above n is not sound
-  pub too-high : n < value → Sound n (patternOf n w) → ⊥
+  -- wishes with one above n are no partial permutation
+  pub too-high : n < value → IsPartial n (patternOf n w) → ⊥
   too-high b q = omega (arith, pattern-at n w i l u, q .bound i l u)
 
-  -- nor is one for a value that is noted
-  pub noted-before : (value ≡ 0 → ⊥) → value ≤ n → (getD p value 0 ≡ 0 → ⊥) → Sound n (patternOf n w) → ⊥
+  -- nor with one for a value that is noted
+  pub noted-before : (value ≡ 0 → ⊥) → value ≤ n → (getD p value 0 ≡ 0 → ⊥) → IsPartial n (patternOf n w) → ⊥
   noted-before d low z q =
       let y = getD p value 0 in
       let (a, b) = s .back value (omega arith) low z in
@@ -119,6 +120,6 @@ all-seen {n} {w} {i} e s =
       counted = λ t. s .counted ∙ ap (λ (j : ℕ). free (patternOf j w)) q;
     }
 
--- or it was seen that they are not sound
-pub seen-unsound : {n : ℕ} {w : List ℕ} {f : ℕ} {p : List ℕ} → (Sound n (patternOf n w) → ⊥) → AreByValue n w (record { sound = false; free = f; positions = p })
+-- or it was seen that they are no partial permutation
+pub seen-unsound : {n : ℕ} {w : List ℕ} {f : ℕ} {p : List ℕ} → (IsPartial n (patternOf n w) → ⊥) → AreByValue n w (record { sound = false; free = f; positions = p })
 seen-unsound d = record { linked = λ t. absurd (false≢true t); unsound = λ _. d; counted = λ t. absurd (false≢true t) }

@@ -6,8 +6,7 @@ use mathlib.Core.List.{List, [], _∷_, _++_}
 use lib.ListN.{length, getD, set, take, drop, length-drop}
 use lib.Seq.{length-take-le, getD-take, getD-drop, take-set-lt, take-take, take-suc, take-suc-set, drop-set-lt, drop-set-add}
 use Rattle.perm.specs.Permutation.{at}
-use Rattle.find.specs.Counting.{smaller}
-use Rattle.find.specs.Search.{patternOf}
+use Rattle.find.specs.Search.{smaller, patternOf}
 
 pub length-pattern : (n : ℕ) (w : List ℕ) → n < length w → length (patternOf n w) ≡ n
 length-pattern n w h = length-take-le n (drop 1 w) (omega (arith, length-drop 1 w))

@@ -3,30 +3,26 @@ use mathlib.Core.Path.{_≡_, refl, sym, ap, _∙_}
 use Prim.Native.Nat.{ℕ, zero, suc, _-_, _≤_, _<_}
 use native.Mathlib.Omega.{arith}
 use native.Mathlib.Decide.{ℕ-discrete}
-use mathlib.Core.Bool.{Bool, true, false, not, cond, _||_, true≢false}
-use mathlib.Core.List.{List, []}
+use mathlib.Core.Bool.{Bool, true, false, not, _||_, true≢false}
+use mathlib.Core.List.{List}
 use lib.Dec.{eqb, ltb, leb}
-use lib.ListN.{length, getD, replicate, drop, length-replicate, getD-replicate}
+use lib.ListN.{length, replicate, drop, length-replicate, getD-replicate}
 use borrow.Table.Steps.{cases}
-use borrow.Author.Tests.{ne-eqb, leb-true, ltb-true, ltb-false, le-ltb, not-false}
+use borrow.Author.Tests.{ltb-true, ltb-false, le-ltb, not-false}
 use Rattle.stirling.specs.Refusal.{refuse, _then_}
 use Rattle.stirling.specs.Count.{c, checkSize, cyclesTaken, checkCycles, checkPlace}
 use Rattle.stirling.proofs.Refusals.{refuse-passed, refuse-passes, then-passed}
-use Rattle.stirling.proofs.Counts.{above, place-passed}
+use Rattle.stirling.proofs.Counts.{place-passed}
 use Rattle.perm.specs.Lists.{tally, some}
-use Rattle.perm.specs.Permutation.{IsPermutation, at}
-use Rattle.perm.specs.Cycle.{cycles}
-use Rattle.perm.proofs.Tally.{refuted, tally-none, one-passes}
-use Rattle.perm.proofs.Values.{in-range, at-suc}
+use Rattle.perm.specs.Permutation.{at}
+use Rattle.perm.proofs.Tally.{refuted, tally-none}
 use Rattle.gray.specs.Order.{Row, S}
 use Rattle.gray.specs.Listing.{rowAt}
 use Rattle.gray.proofs.Once.{length-S, complete}
 use Rattle.find.specs.declared.Found.{Found}
 use Rattle.find.specs.Meeting.{granted, meets, leastFrom}
 use Rattle.find.specs.Find.{checkLengths, checkPattern, checkAsked, checkMet, checkFind, findOf}
-use Rattle.find.specs.Counting.{free, closed}
-use Rattle.find.proofs.Counting.{counted}
-use Rattle.find.proofs.Meeting.{granted-free, granted-same, granted-true, meets-holds, meets-at, met-sound}
+use Rattle.find.proofs.Meeting.{granted-free, granted-same, granted-true, meets-holds, meets-at, met-partial}
 use Rattle.find.proofs.Least.{first-least, first-some, first-none}
 use Rattle.find.proofs.Answered.{first-place, asked-passed, asked-values, find-met, find-unmet}
 
@@ -112,7 +108,7 @@ module _ (n k place : ℕ) (w : List ℕ) (size : ℕ) where
   value-twice e i j l h u same d =
       let (_, _, z, _) = asked-passed n k place w size e in
       unmet-refused e (λ q a b. refuted (meets w (rowAt (S n k) q)) (λ t.
-      let s = met-sound w (rowAt (S n k) q) z (complete n k .sound q (rw (length-S n k) b) .permutation) t in
+      let s = met-partial w (rowAt (S n k) q) z (complete n k .sound q (rw (length-S n k) b) .permutation) t in
       let x = s .apart i j l (omega arith) (omega arith) u same d in
       omega arith))
 
@@ -131,23 +127,3 @@ all-free n k place e =
     first-least (meets w) (S n k) place
     (record { from = omega arith; most = omega (arith, length-S n k); none = λ i l u. absurd (omega arith); passes = λ _. met }) in
     sym (find-met n k place w n asked (λ q. omega arith)) ∙ ap (λ (x : ℕ). record { refusal = 0; place = x }) (sym first)
-
--- where every position has its value, the cycles that are closed are those of the permutation, counted by following
-pub all-given : {n : ℕ} {s : Row} → IsPermutation n s → closed n s ≡ cycles s
-all-given {n} {s} p =
-    let k = cycles s in
-    let (r, l, e) = complete n k .place s (record { permutation = p; count = refl }) in
-    let own : meets s s ≡ true = meets-holds s s (λ i a b. granted-same (at s i) (at s i) refl) in
-    let some-row = one-passes (meets s) [] (S n k) r l (rw e own) in
-    let full : free s ≡ 0 = tally-none (eqb 0) 0 s (λ i h. ne-eqb 0 (getD s i 0) (λ z. omega (arith, at-suc s i, in-range p (suc i) (omega arith) (omega (arith, p .size))))) in
-    left (closed n s) k (rw full at (rw (counted n k s (met-sound s s (p .size) p own)) at some-row))
-  where
-    left : (q k : ℕ) → 1 ≤ cond (leb q k) (c 0 (k - q)) 0 → q ≡ k
-    left q k = by-test (leb q k) refl
-      where
-        by-test : (b : Bool) → leb q k ≡ b → 1 ≤ cond b (c 0 (k - q)) 0 → q ≡ k
-        by-test false t h = absurd (omega arith)
-        by-test true t h =
-            let most = leb-true q k t in
-            let last : ¬ (0 < k - q) = λ l. omega (arith, above 0 (k - q) l) in
-            omega arith

@@ -29,8 +29,7 @@ use Rattle.rank.proofs.Parts.{differs}
 use Rattle.find.specs.declared.Part.{Part}
 use Rattle.find.specs.declared.Search.{Search}
 use Rattle.find.specs.Meeting.{granted, meets, leastFrom}
-use Rattle.find.specs.Counting.{smaller}
-use Rattle.find.specs.Search.{patternOf, partRead, enters, Searchable, Searched}
+use Rattle.find.specs.Search.{smaller, patternOf, partRead, enters, Searchable, Searched}
 use Rattle.find.proofs.Shorter.{meets-grown}
 use Rattle.find.proofs.Least.{First, least-first, first-least, first-none}
 use Rattle.find.proofs.Patterns.{length-pattern, pattern-at}

@@ -5,19 +5,22 @@ use native.Mathlib.Omega.{arith}
 use native.Mathlib.Decide.{ℕ-discrete}
 use mathlib.Core.Bool.{Bool, true, _&&_}
 use mathlib.Core.List.{List, [], _∷_, _++_}
+use lib.Dec.{eqb}
 use lib.ListN.{length, getD, take, length-set, length-append}
 use lib.Seq.{length-take-le, take-length, take-suc, getD-take}
 use Rattle.stirling.proofs.Refusals.{and-true}
 use Rattle.perm.specs.Lists.{one, tally}
-use Rattle.perm.specs.Permutation.{at, put, extend}
+use Rattle.perm.specs.Permutation.{IsPartial, at, put, extend}
+use Rattle.perm.specs.Cycle.{cycles}
 use Rattle.perm.proofs.Tally.{tally-append, tally-set}
 use Rattle.perm.proofs.Exchange.{at-put-same, at-put-other, at-exchange-left, at-exchange-right, at-exchange-other}
 use Rattle.perm.proofs.Split.{at-extend-low, at-extend-top}
+use Rattle.perm.proofs.Cycles.{Leads, straight, through, cycles-longer}
 use Rattle.gray.specs.Order.{Row}
 use Rattle.gray.proofs.Same.{iff-equal}
 use Rattle.rank.specs.Search.{grown}
 use Rattle.find.specs.Meeting.{granted, meets}
-use Rattle.find.specs.Counting.{Sound, smaller}
+use Rattle.find.specs.Search.{smaller}
 use Rattle.find.proofs.Meeting.{both-true, meets-holds, meets-at}
 
 -- wishes of m + 1 positions, and a position x of them
@@ -83,9 +86,9 @@ module _ {m : ℕ} (w : List ℕ) (size : length w ≡ suc m) (x : ℕ) (l : 1 �
   not-here h (last e f) q = omega arith
   not-here h (own d f) q = d (sym f ∙ q)
 
-  -- sound wishes stay sound where no other position wishes m + 1
-  pub smaller-sound : Sound (suc m) w → ((i : ℕ) → 1 ≤ i → i ≤ suc m → at w i ≡ suc m → i ≡ x) → Sound m (smaller m x w)
-  smaller-sound s only = record {
+  -- wishes that are a partial permutation stay one where no other position wishes m + 1
+  pub smaller-partial : IsPartial (suc m) w → ((i : ℕ) → 1 ≤ i → i ≤ suc m → at w i ≡ suc m → i ≡ x) → IsPartial m (smaller m x w)
+  smaller-partial s only = record {
     size = length-smaller;
     bound = λ i li ui.
         let (a, la, ua, e, f) = from i li ui in
@@ -96,6 +99,15 @@ module _ {m : ℕ} (w : List ℕ) (size : length w ≡ suc m) (x : ℕ) (l : 1 �
         let (b, lb, ub, eb, fb) = from j lj uj in
         from-one ui uj fa fb (s .apart a b la ua lb ub (sym ea ∙ e ∙ eb) (λ z. d (ea ∙ z)));
   }
+
+  -- and where x is the position that wishes it, or the last, the wishes close the cycles that are left to close, and one more where the last position wishes itself
+  pub cycles-smaller : IsPartial (suc m) w → ((i : ℕ) → 1 ≤ i → i ≤ suc m → at w i ≡ suc m → i ≡ x) → (x ≤ m → at w x ≡ suc m)
+      → cycles w ≡ cycles (smaller m x w) + one (eqb (at w (suc m)) (suc m))
+  cycles-smaller s only here = cycles-longer (smaller-partial s only) s (λ y ly uy. by-position y ly uy (ℕ-discrete y x))
+    where
+      by-position : (y : ℕ) → 1 ≤ y → y ≤ m → Dec (y ≡ x) → Leads m (smaller m x w) w y
+      by-position y ly uy (yes e) = let h : x ≤ m = omega arith in rw e (through (here h) (sym (smaller-here h)))
+      by-position y ly uy (no d) = straight (sym (smaller-other y ly uy d))
 
 -- a row of m + 1 that has value m + 1 at position x, and its shorter row γ
 module _ {m : ℕ} (w : List ℕ) (size : length w ≡ suc m) (x : ℕ) (l : 1 ≤ x) (u : x ≤ suc m) (γ : Row) (z : length γ ≡ m) where

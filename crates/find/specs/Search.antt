@@ -1,11 +1,12 @@
 -- How the first row is found, going down the blocks. Only private contracts cite these. These are definitions; nothing is assumed.
 use mathlib.Core.Path.{_≡_}
-use Prim.Native.Nat.{ℕ, _+_, _-_, _*_, _≤_, _<_}
+use Prim.Native.Nat.{ℕ, suc, _+_, _-_, _*_, _≤_, _<_}
 use mathlib.Core.Bool.{Bool, true, false, _&&_}
 use mathlib.Core.List.{List}
 use lib.ListN.{getD, take, drop}
 use Rattle.stirling.specs.Count.{c}
 use Rattle.perm.specs.Lists.{some}
+use Rattle.perm.specs.Permutation.{IsPartial, at, put}
 use Rattle.gray.specs.declared.Block.the-variants.{Extend as E}
 use Rattle.gray.specs.Order.{S}
 use Rattle.gray.specs.Blocks.{positionOf}
@@ -14,7 +15,11 @@ use Rattle.find.specs.declared.ByValue.{ByValue}
 use Rattle.find.specs.declared.Part.{Part}
 use Rattle.find.specs.declared.Search.{Search}
 use Rattle.find.specs.Meeting.{granted, meets, leastFrom}
-use Rattle.find.specs.Counting.{Sound, smaller, free}
+use Rattle.find.specs.Counting.{free}
+
+-- wishes of m + 1 positions once value m + 1 stands at position x: without the last, whose wish position x has from now on
+abbrev pub smaller : ℕ → ℕ → List ℕ → List ℕ
+smaller m x w = take m (put w x (at w (suc m)))
 
 -- the wishes of n positions, from a list that has the wish of position i at index i
 abbrev pub patternOf : ℕ → List ℕ → List ℕ
@@ -32,7 +37,7 @@ pub record Linked (n : ℕ) (w p : List ℕ) : Type 0 where
 -- the wishes of n positions by their values
 pub record AreByValue (n : ℕ) (w : List ℕ) (r : ByValue) : Type 0 where
   pub linked : r .sound ≡ true → Linked n w (r .positions)
-  pub unsound : r .sound ≡ false → Sound n (patternOf n w) → ⊥
+  pub unsound : r .sound ≡ false → IsPartial n (patternOf n w) → ⊥
   pub counted : r .sound ≡ true → r .free ≡ free (patternOf n w)
 
 -- what stands below the block with a number, counted as a reading of S(n,k) meets the blocks

@@ -11,11 +11,11 @@ ghost use mathlib.Core.Bool.{true};
 ghost use lib.ListN.{length, getD, set};
 ghost use Rattle.stirling.specs.Count.{c, IsTable};
 ghost use Rattle.perm.specs.Lists.{some};
+ghost use Rattle.perm.specs.Cycle.{cycles};
 ghost use Rattle.gray.specs.Order.{S};
 ghost use Rattle.gray.specs.Blocks.{blocks};
 ghost use Rattle.find.specs.Meeting.{meets, leastFrom};
 ghost use Rattle.find.specs.Find.{checkPattern, checkAsked, findOf, writtenBy};
-ghost use Rattle.find.specs.Counting.{closed};
 ghost use Rattle.find.specs.Search.{patternOf, Linked, AreByValue, partRead, enters, Searchable, Searched};
 
 // No permutation from the place on meets the wishes.
@@ -98,7 +98,7 @@ fn by_value(n: u64, w: [u8; 21]) -> ByValue
 // wish of the last one, and where the last wishes itself a cycle is closed. A value or a position that is missing is index 0, which is no position.
 fn closed(n: u64, w: [u8; 21], p: [u8; 21]) -> u64
     requires { ⌜ (n ≤ 20) × Linked n w p ⌝ }
-    ensures { λ r. ⌜ r ≡ closed n (patternOf n w) ⌝ }
+    ensures { λ r. ⌜ r ≡ cycles (patternOf n w) ⌝ }
 {
     let mut values = w;
     let mut positions = p;

@@ -15,7 +15,7 @@ use Rattle.perm.proofs.Exchange.{exchange-same, exchange-top}
 use Rattle.perm.proofs.Arrays.{array-append, product-extend, product-insert, one-array}
 
 -- the first index with a value, as a position
-pub position-first : (v : ℕ) (s : List ℕ) (i : ℕ) → i < length s → v ≡ getD s i 0 → ((j : ℕ) → j < i → v ≡ getD s j 0 → ⊥) → position v s ≡ suc i
+position-first : (v : ℕ) (s : List ℕ) (i : ℕ) → i < length s → v ≡ getD s i 0 → ((j : ℕ) → j < i → v ≡ getD s j 0 → ⊥) → position v s ≡ suc i
 unfolding position
 position-first v [] i h e d = absurd (omega arith)
 position-first v (x ∷ s) zero h e d = rw (eq-eqb v x e)

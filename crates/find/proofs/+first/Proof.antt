@@ -12,8 +12,7 @@ use Rattle.gray.proofs.InPlace.{few-blocks}
 use Rattle.rank.specs.Search.{readingOf, before}
 use Rattle.rank.proofs.Starts.{before-most}
 use Rattle.find.specs.Meeting.{meets}
-use Rattle.find.specs.Counting.{smaller}
-use Rattle.find.specs.Search.{patternOf, enters, Searched}
+use Rattle.find.specs.Search.{smaller, patternOf, enters, Searched}
 use Rattle.find.proofs.Patterns.{pattern-below}
 use Rattle.find.proofs.Least.{First}
 use Rattle.find.proofs.Searching.{Going, begins, position-here, ends-at, passes-by, stays-out, some-below, starts-below, found, missed, searched-nothing, first-of, searched-found, searched-none}
