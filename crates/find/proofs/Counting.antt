@@ -338,16 +338,16 @@ module _ (m : ℕ) (shorter : (k : ℕ) (w : List ℕ) → IsPartial m w → tal
       by-top (no d) = top-taken none d
 
 -- m + 1 taken away at the position that wishes it, or at the last, where none does
-taken-away : {m : ℕ} {w : List ℕ} → IsPartial (suc m) w
-    → (x : ℕ) × (1 ≤ x) × (x ≤ suc m) × IsPartial m (smaller m x w) × (cycles w ≡ cycles (smaller m x w) + one (eqb (at w (suc m)) (suc m)))
+abbrev Taken : ℕ → List ℕ → Type 0
+Taken m w = (x : ℕ) × (1 ≤ x) × (x ≤ suc m) × IsPartial m (smaller m x w) × (cycles w ≡ cycles (smaller m x w) + one (eqb (at w (suc m)) (suc m)))
+
+taken-away : {m : ℕ} {w : List ℕ} → IsPartial (suc m) w → Taken m w
 taken-away {m} {w} s = by-where (where-wanted m w (s .size))
   where
-    at-position : (x : ℕ) → 1 ≤ x → x ≤ suc m → ((i : ℕ) → 1 ≤ i → i ≤ suc m → at w i ≡ suc m → i ≡ x) → (x ≤ m → at w x ≡ suc m)
-        → (x : ℕ) × (1 ≤ x) × (x ≤ suc m) × IsPartial m (smaller m x w) × (cycles w ≡ cycles (smaller m x w) + one (eqb (at w (suc m)) (suc m)))
+    at-position : (x : ℕ) → 1 ≤ x → x ≤ suc m → ((i : ℕ) → 1 ≤ i → i ≤ suc m → at w i ≡ suc m → i ≡ x) → (x ≤ m → at w x ≡ suc m) → Taken m w
     at-position x l u only here = (x, l, u, smaller-partial w (s .size) x l u s only, cycles-smaller w (s .size) x l u s only here)
 
-    by-where : Where m w
-        → (x : ℕ) × (1 ≤ x) × (x ≤ suc m) × IsPartial m (smaller m x w) × (cycles w ≡ cycles (smaller m x w) + one (eqb (at w (suc m)) (suc m)))
+    by-where : Where m w → Taken m w
     by-where (last e) = at-position (suc m) (omega arith) (omega arith) (wanted-once s (suc m) (omega arith) (omega arith) e) (λ _. e)
     by-where (other x l h e) = at-position x l (omega arith) (wanted-once s x l (omega arith) e) (λ _. e)
     by-where (nowhere none) = at-position (suc m) (omega arith) (omega arith) (λ i l u e. absurd (none i l u e)) (λ h. absurd (omega arith))
