@@ -73,8 +73,8 @@ module _ (m : ℕ) (w p : List ℕ) (h : suc m < length w) (k : Linked (suc m) w
   a = patternOf (suc m) w
 
   -- the position that wishes the last value, if one does
-  wished : (i : ℕ) → 1 ≤ i → i ≤ suc m → at a i ≡ suc m → i ≡ getD p (suc m) 0
-  wished i l u e =
+  wanted : (i : ℕ) → 1 ≤ i → i ≤ suc m → at a i ≡ suc m → i ≡ getD p (suc m) 0
+  wanted i l u e =
       let is : getD w i 0 ≡ suc m = sym (pattern-at (suc m) w i l u) ∙ e in
       sym (k .values i l u (λ z. omega arith) .1) ∙ ap (λ (v : ℕ). getD p v 0) is
 
@@ -93,12 +93,12 @@ module _ (m : ℕ) (w p : List ℕ) (h : suc m < length w) (k : Linked (suc m) w
     where
       by-position : Dec (getD p (suc m) 0 ≡ 0) → cycles a ≡ one (eqb (getD w (suc m) 0) (suc m)) + cycles (patternOf m (set w (getD p (suc m) 0) (getD w (suc m) 0)))
       by-position (yes e) =
-          last-closed (suc m) (omega arith) (omega arith) (λ i l u f. absurd (omega (arith, wished i l u f))) (λ o. absurd (omega arith))
+          last-closed (suc m) (omega arith) (omega arith) (λ i l u f. absurd (omega (arith, wanted i l u f))) (λ o. absurd (omega arith))
           ∙ rw (set-getD w (suc m) 0, e, pattern-none m w (getD w (suc m) 0))
       by-position (no d) =
           let y = getD p (suc m) 0 in
           let (u, is) = k .positions (suc m) (omega arith) (omega arith) d in
-          last-closed y (omega arith) u wished (λ _. pattern-at (suc m) w y (omega arith) u ∙ is)
+          last-closed y (omega arith) u wanted (λ _. pattern-at (suc m) w y (omega arith) u ∙ is)
 
 -- taking away position after position: the cycles counted, and those that the wishes of the first m positions close, are all
 pub record Closing (n : ℕ) (w₀ w p : List ℕ) (count m : ℕ) : Type 0 where

@@ -31,7 +31,7 @@ unfolding follow
 follow-fixed s i e zero = refl
 follow-fixed s i e (suc t) = ap (at s) (follow-fixed s i e t) ∙ e
 
--- from a position that leads past no position without a value in n steps
+-- from a position that in n steps never leads to 0, where a value is missing
 module _ {n : ℕ} {s : List ℕ} (p : IsPartial n s) (i : ℕ) (h : i ≤ n) (goes : (t : ℕ) → t ≤ n → 1 ≤ follow s t i) where
   inside : (t : ℕ) → t ≤ n → follow s t i ≤ n
   unfolding follow
@@ -68,7 +68,7 @@ unfolding follow
 follow-range p zero i h k = (h, k)
 follow-range {n} {s} p (suc t) i h k = let r = follow-range p t i h k in in-range p (follow s t i) (r .0) (r .1)
 
--- a cycle of it closes within n steps
+-- so its cycles close within n steps
 pub closes : {n : ℕ} {s : List ℕ} → IsPermutation n s → (i : ℕ) → 1 ≤ i → i ≤ n → (t : ℕ) × (1 ≤ t) × (t ≤ n) × (follow s t i ≡ i)
 closes p i h k = closes-within (partial p) i k (λ t _. follow-range p t i h k .0)
 
@@ -196,7 +196,7 @@ module _ {m : ℕ} {γ s : List ℕ} (p : IsPartial m γ) (leads : (x : ℕ) →
   low-shorter : Low s j → Low γ j
   low-shorter low t = let (_, (u, e)) = shorter low t in rw e (low u)
 
-  -- and the other way round
+  -- and the other way round, where none below j is met in γ
   module _ (low : Low γ j) where
     met-inside : (t : ℕ) → follow γ t j ≤ m
     unfolding follow
