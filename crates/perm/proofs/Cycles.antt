@@ -31,12 +31,16 @@ unfolding follow
 follow-fixed s i e zero = refl
 follow-fixed s i e (suc t) = ap (at s) (follow-fixed s i e t) ∙ e
 
--- from a position that in n steps never leads to 0, where a value is missing
+-- as long as no 0 is met, where a value is missing, what is met is a position
+follow-inside : {n : ℕ} {s : List ℕ} → IsPartial n s → (i : ℕ) → i ≤ n → (t : ℕ) → ((u : ℕ) → u < t → 1 ≤ follow s u i) → follow s t i ≤ n
+unfolding follow
+follow-inside p i h zero goes = h
+follow-inside {n} {s} p i h (suc t) goes = p .bound (follow s t i) (goes t (omega arith)) (follow-inside p i h t (λ u l. goes u (omega arith)))
+
+-- from a position that in n steps never leads to 0
 module _ {n : ℕ} {s : List ℕ} (p : IsPartial n s) (i : ℕ) (h : i ≤ n) (goes : (t : ℕ) → t ≤ n → 1 ≤ follow s t i) where
   inside : (t : ℕ) → t ≤ n → follow s t i ≤ n
-  unfolding follow
-  inside zero l = h
-  inside (suc t) l = p .bound (follow s t i) (goes t (omega arith)) (inside t (omega arith))
+  inside t l = follow-inside p i h t (λ u b. goes u (omega arith))
 
   -- equal positions after a and after a + d steps: d steps lead back
   repeat-closes : (a d : ℕ) → a + d ≤ n → follow s a i ≡ follow s (a + d) i → i ≡ follow s d i
@@ -198,18 +202,13 @@ module _ {m : ℕ} {γ s : List ℕ} (p : IsPartial m γ) (leads : (x : ℕ) →
 
   -- and the other way round, where none below j is met in γ
   module _ (low : Low γ j) where
-    met-inside : (t : ℕ) → follow γ t j ≤ m
-    unfolding follow
-    met-inside zero = k
-    met-inside (suc t) = p .bound (follow γ t j) (omega (arith, low t)) (met-inside t)
-
     longer-old : (u : ℕ) → Leads m γ s (follow γ u j) → Met m γ s j (at s (follow γ u j))
     unfolding follow
     longer-old u (straight f) = old (suc u) f
     longer-old u (through f g) = new (suc u) f g
 
     longer-step : (x : ℕ) → Met m γ s j x → Met m γ s j (at s x)
-    longer-step x (old u e) = rw e (longer-old u (leads (follow γ u j) (omega (arith, low u)) (met-inside u)))
+    longer-step x (old u e) = rw e (longer-old u (leads (follow γ u j) (omega (arith, low u)) (follow-inside p j k u (λ t _. omega (arith, low t)))))
     longer-step x (new u e f) = old u (ap (at s) e ∙ f)
 
     -- a position met in s is met in γ, or is m + 1
