@@ -11,7 +11,7 @@ use Rattle.stirling.specs.Refusal.{refuse, _then_, unless, within}
 use Rattle.stirling.specs.Count.{c, checkCycles, checkPlace}
 use Rattle.stirling.proofs.Refusals.{refuse-passed, then-passed, unless-refuses, within-holds, within-true}
 use Rattle.stirling.proofs.Counts.{cycles-passes, cycles-passed, place-passes, place-passed}
-use Rattle.gray.proofs.Same.{same-refl}
+use Rattle.perm.proofs.Same.{same-refl}
 use Rattle.cursor.specs.declared.Opening.{Opening}
 use Rattle.cursor.specs.declared.Opening.the-variants.{Whole, Section}
 use Rattle.cursor.specs.Machine.{Machine, InSection, Call, forward, back, jump, show, Steps, onward, backward, observe, refusalOf, destination, moved, turn, bare, turned, machineRun}

@@ -9,7 +9,7 @@ use Rattle.stirling.proofs.Counts.{cycles-passes, place-passed}
 use Rattle.perm.specs.Lists.{same}
 use Rattle.perm.proofs.Tally.{refuted}
 use Rattle.cursor.specs.Machine.{InSection, observe}
-use Rattle.gray.proofs.Same.{same-true}
+use Rattle.perm.proofs.Same.{same-true}
 use Rattle.cursor.specs.Walk.{machineOf, sound}
 use Rattle.cursor.specs.declared.Cursor.{Cursor}
 use Rattle.cursor.proofs.Calls.{OnPlace, in-on}

@@ -22,7 +22,7 @@ use Rattle.perm.proofs.Tally.{refuted, none-passes, some-passes}
 use Rattle.perm.proofs.Values.{injective, onto, at-suc}
 use Rattle.gray.specs.Order.{Row, S}
 use Rattle.gray.specs.Listing.{rowAt}
-use Rattle.gray.proofs.Same.{iff-equal}
+use Rattle.perm.proofs.Same.{iff-equal}
 use Rattle.gray.proofs.Joined.{S-zero}
 use Rattle.gray.proofs.Sum.{sum, sum-zero, sum-one}
 use Rattle.gray.proofs.Counting.{tally-S, tally-empty}

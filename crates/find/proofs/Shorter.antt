@@ -17,7 +17,7 @@ use Rattle.perm.proofs.Exchange.{at-put-same, at-put-other, at-exchange-left, a
 use Rattle.perm.proofs.Split.{at-extend-low, at-extend-top}
 use Rattle.perm.proofs.Cycles.{Leads, straight, through, cycles-longer}
 use Rattle.gray.specs.Order.{Row}
-use Rattle.gray.proofs.Same.{iff-equal}
+use Rattle.perm.proofs.Same.{iff-equal}
 use Rattle.rank.specs.Search.{grown}
 use Rattle.find.specs.Meeting.{granted, meets}
 use Rattle.find.specs.Search.{smaller}

@@ -3,17 +3,6 @@
 use find::Found;
 use libc::STDIN_FILENO;
 
-// The place that eight bytes name.
-fn place_of(bytes: &[u8]) -> u64 {
-    let mut place = 0;
-    let mut i = 0;
-    while i < bytes.len() {
-        place = place % 72057594037927936 * 256 + bytes[i] as u64;
-        i += 1;
-    }
-    place
-}
-
 // What was found: its place and the permutation, or the refusal.
 fn print_found(found: Found, row: &[u8]) {
     if found.refusal != 0 {
@@ -62,7 +51,7 @@ fn print_all(text: &[u8]) {
         let end = from + n;
         print_search(
             text[at + 1] as u64,
-            place_of(&text[at + 2..from]),
+            print::place_of(&text[at + 2..from]),
             &text[from..end],
         );
         at = end;

@@ -5,7 +5,6 @@ pub mod InPlace
 pub mod Numbered
 pub mod Sum
 pub mod Counting
-pub mod Same
 pub mod Once
 pub mod Exchange
 pub mod Step

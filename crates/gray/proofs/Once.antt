@@ -17,7 +17,7 @@ use Rattle.perm.proofs.Cycles.{cycles-extend, cycles-insert}
 use Rattle.gray.proofs.Joined.{S-zero}
 use Rattle.gray.proofs.Sum.{sum-equal, sum-zero, sum-one, sum-part}
 use Rattle.gray.proofs.Counting.{tally-empty, tally-S}
-use Rattle.gray.proofs.Same.{same-equal, same-true, same-false, same-iff}
+use Rattle.perm.proofs.Same.{same-equal, same-true, same-false, same-iff}
 
 tally-true : (L : List Row) → tally (λ γ. true) L ≡ length L
 tally-true L = tally-all (λ γ. true) [] L (λ r b. refl)

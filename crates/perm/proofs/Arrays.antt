@@ -52,7 +52,7 @@ partial-append {n} {p} x (suc m) a h =
     (exchange-append (at p (suc m)) (suc m) (partial n p m) (suc n ∷ []) (b .0) (omega arith) (omega arith) (omega arith))
 
 -- the product is the last of the partial ones
-product-partial : {n : ℕ} (p : List ℕ) → length p ≡ n → product p ≡ partial n p n
+pub product-partial : {n : ℕ} (p : List ℕ) → length p ≡ n → product p ≡ partial n p n
 unfolding product
 product-partial p e = rw e
 

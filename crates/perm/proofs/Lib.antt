@@ -1,4 +1,5 @@
 pub mod Tally
+pub mod Same
 pub mod Counted
 pub mod Fixed
 pub mod Values

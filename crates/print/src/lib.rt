@@ -1,4 +1,4 @@
-// Numbers and bytes on standard output, for the test programs.
+// Numbers and bytes on standard output, and the places that an input names, for the test programs.
 use libc::STDOUT_FILENO;
 
 // A text as it is.
@@ -44,4 +44,15 @@ pub fn values(s: &[u8]) {
     }
     value(s[0]);
     bytes(&s[1..]);
+}
+
+// The place that eight bytes name, the highest first.
+pub fn place_of(bytes: &[u8]) -> u64 {
+    let mut place = 0;
+    let mut i = 0;
+    while i < bytes.len() {
+        place = place % 72057594037927936 * 256 + bytes[i] as u64;
+        i += 1;
+    }
+    place
 }

@@ -8,7 +8,7 @@ use lib.ListN.{length, take, drop, length-take, length-drop}
 use lib.Seq.{take-all}
 use borrow.Author.Tests.{le-leb, lt-leb}
 use Rattle.perm.specs.Lists.{same}
-use Rattle.gray.proofs.Same.{same-true, same-false}
+use Rattle.perm.proofs.Same.{same-true, same-false}
 use Rattle.sheet.specs.Text.{SPACE, LF, header}
 use Rattle.sheet.specs.Asked.{asked, askedLine}
 use Rattle.sheet.specs.Found.{found}

@@ -11,7 +11,7 @@ use lib.ListN.{length, take, drop, getD, length-append, take-append-drop}
 use lib.Seq.{drop-cons, drop-append-add, getD-append-seam}
 use borrow.Author.Tests.{le-leb}
 use Rattle.perm.specs.Lists.{same}
-use Rattle.gray.proofs.Same.{same-equal, same-true}
+use Rattle.perm.proofs.Same.{same-equal, same-true}
 use Rattle.sheet.specs.Text.{SPACE, LF, header, isDigit, valueFrom}
 use Rattle.sheet.specs.Asked.{leading, field, askedLine, asked}
 use Rattle.sheet.specs.declared.Asked.{Asked}

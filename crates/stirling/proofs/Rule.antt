@@ -23,7 +23,7 @@ right xs (suc n) zero = eqb (entry xs (suc n) 0) 0
 right xs (suc n) (suc k) = eqb (entry xs (suc n) (suc k)) (n * entry xs n (suc k) + entry xs n k)
 
 -- a test passes at each number below a bound
-abbrev all : (ℕ → Bool) → ℕ → Bool
+abbrev pub all : (ℕ → Bool) → ℕ → Bool
 all f zero = true
 all f (suc m) = f 0 && all (λ i. f (suc i)) m
 
@@ -31,16 +31,16 @@ all f (suc m) = f 0 && all (λ i. f (suc i)) m
 abbrev pub everyRight : List ℕ → Bool
 everyRight xs = all (λ n. all (right xs n) 21) 21
 
-and-left : (a b : Bool) → T (a && b) → T a
+pub and-left : (a b : Bool) → T (a && b) → T a
 and-left true b t = tt
 and-left false b t = t
 
-and-right : (a b : Bool) → T (a && b) → T b
+pub and-right : (a b : Bool) → T (a && b) → T b
 and-right true b t = t
 and-right false b t = absurd t
 
 -- a test of all numbers below a bound, at one of them
-all-at : (f : ℕ → Bool) (m : ℕ) → T (all f m) → (i : ℕ) → i < m → T (f i)
+pub all-at : (f : ℕ → Bool) (m : ℕ) → T (all f m) → (i : ℕ) → i < m → T (f i)
 all-at f zero t i h = absurd (omega arith)
 all-at f (suc m) t zero h = and-left (f 0) (all (λ i. f (suc i)) m) t
 all-at f (suc m) t (suc i) h = all-at (λ i. f (suc i)) m (and-right (f 0) (all (λ i. f (suc i)) m) t) i (omega arith)

@@ -10,7 +10,7 @@ use lib.ListN.{length, take, getD, length-take}
 use lib.Seq.{getD-take, take-length, take-suc}
 use denote.Ref.{now}
 use Rattle.perm.specs.Lists.{same}
-use Rattle.gray.proofs.Same.{same-equal, same-false}
+use Rattle.perm.proofs.Same.{same-equal, same-false}
 use Rattle.sheet.proofs.begins_with.Statement.{statement}
 use Rattle.sheet.proofs.begins_with.Tie as tie
 

@@ -1,10 +1,10 @@
--- `finds::place_of` is safe and ends. Assumes nothing.
+-- `print::place_of` is safe and ends. Assumes nothing.
 use Prim.Native.Nat.{_≤_, _-_}
 use native.Mathlib.Omega.{arith}
 use lib.ListN.{length}
 use borrow.Author.Needs.{needs}
-use Rattle.finds.proofs.place_of.Statement.{statement}
-use Rattle.finds.proofs.place_of.Tie as tie
+use Rattle.print.proofs.place_of.Statement.{statement}
+use Rattle.print.proofs.place_of.Tie as tie
 
 abbrev Inv-loop : tie.InvT-loop
 Inv-loop bytes place₀ i₀ place i = i ≤ length bytes
