@@ -6,7 +6,7 @@
 mod reference;
 
 use osierdrum::Level;
-use reference::{shuffled, Random, Reference};
+use reference::{shuffled, tree::Involutions, Random, Reference};
 use std::{hint::black_box, iter::successors, time::Instant};
 
 const PLACES: usize = 256;
@@ -25,7 +25,7 @@ fn nanoseconds(mut call: impl FnMut(usize)) -> f64 {
 }
 
 fn line(name: &str, n: u64, ours: f64, theirs: f64) {
-    println!("{name:<15} {n:>2} {ours:>12.1} {theirs:>12.1} {:>7.2}", ours / theirs);
+    println!("{name:<17} {n:>2} {ours:>12.1} {theirs:>12.1} {:>7.2}", ours / theirs);
 }
 
 /// A row with positions freed at random, each with a chance of so many in twenty.
@@ -188,7 +188,8 @@ fn worst_search() {
 
 fn main() {
     let reference = Reference::new();
-    println!("{:<15} {:>2} {:>12} {:>12} {:>7}", "call", "n", "library ns", "Rust ns", "ratio");
+    let involutions = Involutions::new();
+    println!("{:<17} {:>2} {:>12} {:>12} {:>7}", "call", "n", "library ns", "Rust ns", "ratio");
     for n in [5u64, 10, 15, 20] {
         let k = n / 3 + 1;
         let size = n as usize;
@@ -258,6 +259,28 @@ fn main() {
         let ours = nanoseconds(|i| _ = black_box(osierdrum::find(n, k, black_box(places[i]), entry(i), &mut out)));
         let theirs = nanoseconds(|i| _ = black_box(reference.find(n, k, black_box(places[i]), entry(i), &mut out)));
         line("find", n, ours, theirs);
+
+        let count = osierdrum::involution_count(n).expect("1 to 20");
+        let places: Vec<u64> = (0..PLACES).map(|_| random.below(count)).collect();
+        let made: Vec<Vec<u8>> = places
+            .iter()
+            .map(|&place| {
+                osierdrum::involution_unrank(n, place, &mut out).expect("a place of the list");
+                out.clone()
+            })
+            .collect();
+
+        let ours = nanoseconds(|_| _ = black_box(osierdrum::involution_count(black_box(n))));
+        let theirs = nanoseconds(|_| _ = black_box(involutions.count(black_box(n))));
+        line("involution_count", n, ours, theirs);
+
+        let ours = nanoseconds(|i| _ = black_box(osierdrum::involution_unrank(n, black_box(places[i]), &mut out)));
+        let theirs = nanoseconds(|i| _ = black_box(involutions.unrank(n, black_box(places[i]), &mut out)));
+        line("involution_unrank", n, ours, theirs);
+
+        let ours = nanoseconds(|i| _ = black_box(osierdrum::involution_rank(black_box(&made[i]))));
+        let theirs = nanoseconds(|i| _ = black_box(involutions.rank(black_box(&made[i]))));
+        line("involution_rank", n, ours, theirs);
     }
     worst_search();
 }

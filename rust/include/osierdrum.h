@@ -5,10 +5,11 @@
  * n is 0 to 20. With n = 0, k is 0, and S(0,0) holds the one permutation of nothing, no bytes at place 0; with n from 1
  * on, k is 1 to n.
  *
- * Refusals: 0 none; 1 n is more than 20; 2 k is not 1 to n, or with n = 0 not 0; 3 place >= c(n,k); 4 m is not 1 to 1000,
- * or more rows than are left; 5 a written slice has not the length asked for, two permutations have unequal lengths, the
- * pairs do not fit, or the wishes are not n long; 6 a value, an entry or a wish out of range; 7 a value twice; 12 fewer
- * levels lent than the permutation has values; 14 no permutation from the place to the end meets the wishes. */
+ * Refusals: 0 none; 1 n is more than 20; 2 k is not 1 to n, or with n = 0 not 0; 3 place >= c(n,k), or in the list of
+ * involutions >= their number; 4 m is not 1 to 1000, or more rows than are left; 5 a written slice has not the length
+ * asked for, two permutations have unequal lengths, the pairs do not fit, or the wishes are not n long; 6 a value, an
+ * entry or a wish out of range; 7 a value twice; 12 fewer levels lent than the permutation has values; 14 no
+ * permutation from the place to the end meets the wishes; 15 a cycle longer than two. */
 #ifndef OSIERDRUM_H
 #define OSIERDRUM_H
 
@@ -26,6 +27,7 @@ struct osierdrum_Array { uint8_t refusal; uint64_t fixed; };
 struct osierdrum_Explanation { uint8_t refusal; uint64_t k; uint64_t place; };
 struct osierdrum_Exchanges { uint8_t refusal; uint64_t count; uint64_t written; };
 struct osierdrum_Found { uint8_t refusal; uint64_t place; };
+struct osierdrum_Place { uint8_t refusal; uint64_t place; };
 
 /* One size's part of an explanation: the letter 'a' to 'e' of the relation that gives the list at that size, whether the
  * list is read backward, the number from 0 in written order of the block that holds the permutation, and how many
@@ -83,6 +85,18 @@ uint8_t osierdrum_to_inversions(const uint8_t *s, size_t s_len, uint8_t *out, si
  * not overlap. */
 struct osierdrum_Found osierdrum_find(uint64_t n, uint64_t k, uint64_t place, const uint8_t *wishes, size_t wishes_len,
                                       uint8_t *out, size_t out_len);
+
+/* The number of involutions of n, the permutations with no cycle longer than two. Refusal 1. */
+struct osierdrum_Count osierdrum_involution_count(uint64_t n);
+
+/* The involution of n at a place, to n bytes. The list is a tree, the identity first: a permutation, then its children,
+ * each with all its own children before the next. A child exchanges the values at positions l < j, where j lies above
+ * the highest position that has not its own value (above 1 if there is none), j rising, and for each j, l rising over
+ * the positions that have their own value. Refusals 1, 3, 5. */
+uint8_t osierdrum_involution_unrank(uint64_t n, uint64_t place, uint8_t *out, size_t out_len);
+
+/* The place of an involution in that list. Refusals 1, 6, 7, 15. */
+struct osierdrum_Place osierdrum_involution_rank(const uint8_t *s, size_t s_len);
 
 #ifdef __cplusplus
 }

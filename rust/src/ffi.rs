@@ -43,6 +43,12 @@ pub struct Found {
     pub place: u64,
 }
 
+#[repr(C)]
+pub struct Place {
+    pub refusal: u8,
+    pub place: u64,
+}
+
 extern "C" {
     pub fn osierdrum_count(n: u64, k: u64) -> Count;
     pub fn osierdrum_unrank(n: u64, k: u64, place: u64, out: *mut u8, out_len: usize) -> u8;
@@ -70,4 +76,7 @@ extern "C" {
         out: *mut u8,
         out_len: usize,
     ) -> Found;
+    pub fn osierdrum_involution_count(n: u64) -> Count;
+    pub fn osierdrum_involution_unrank(n: u64, place: u64, out: *mut u8, out_len: usize) -> u8;
+    pub fn osierdrum_involution_rank(s: *const u8, s_len: usize) -> Place;
 }

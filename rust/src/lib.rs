@@ -5,6 +5,9 @@
 //! cycles count from 1, places from 0. With n = 0, k is 0, and the list holds the one permutation of nothing, no bytes
 //! at place 0; with n from 1 on, k is 1 to n.
 //!
+//! The involutions of n, which have no cycle longer than two, stand in a list of their own, without a k: see
+//! [`involution_unrank`].
+//!
 //! The work is done by `libosierdrum.a`, whose every function is proved to meet its contract for all inputs. Nothing
 //! that is handed in can make a call read or write outside its slices or fail to return; what a call cannot serve it
 //! refuses with a [`Refusal`], and then nothing in a lent slice has changed.
@@ -40,7 +43,7 @@ pub enum Refusal {
     Size = 1,
     /// 2: k is not 1 to n, or with n = 0 not 0.
     Cycles = 2,
-    /// 3: the place is c(n,k) or more.
+    /// 3: the place is c(n,k) or more, or in the list of involutions their number or more.
     Place = 3,
     /// 4: the number of rows is not 1 to 1,000, or more than are left from the place on.
     Rows = 4,
@@ -55,6 +58,8 @@ pub enum Refusal {
     Levels = 12,
     /// 14: no permutation from the place to the end meets the wishes.
     Unmet = 14,
+    /// 15: a cycle is longer than two.
+    Long = 15,
 }
 
 impl Refusal {
@@ -71,6 +76,7 @@ impl Refusal {
             7 => Err(Refusal::Twice),
             12 => Err(Refusal::Levels),
             14 => Err(Refusal::Unmet),
+            15 => Err(Refusal::Long),
             _ => unreachable!("no call refuses {number}"),
         }
     }
@@ -88,6 +94,7 @@ impl fmt::Display for Refusal {
             Refusal::Twice => "a value occurs twice",
             Refusal::Levels => "fewer levels were lent than the permutation has values",
             Refusal::Unmet => "no permutation from the place to the end meets the wishes",
+            Refusal::Long => "a cycle is longer than two",
         };
         write!(f, "refused {}: {why}", *self as u8)
     }
@@ -439,5 +446,62 @@ pub fn find(n: u64, k: u64, place: u64, wishes: &[u8], out: &mut [u8]) -> Result
     // SAFETY: each pointer and length are those of one slice, and the written one is ours alone.
     let answer =
         unsafe { ffi::osierdrum_find(n, k, place, wishes.as_ptr(), wishes.len(), out.as_mut_ptr(), out.len()) };
+    Refusal::checked(answer.refusal).map(|()| answer.place)
+}
+
+/// How many involutions of n there are: permutations with no cycle longer than two. It is the length of the list that
+/// [`involution_unrank`] tells of.
+///
+/// Refusals: [`Refusal::Size`].
+///
+/// ```
+/// assert_eq!(osierdrum::involution_count(4), Ok(10));
+/// assert_eq!(osierdrum::involution_count(20), Ok(23_758_664_096));
+/// assert_eq!(osierdrum::involution_count(0), Ok(1)); // the one permutation of nothing
+/// ```
+pub fn involution_count(n: u64) -> Result<u64, Refusal> {
+    // SAFETY: the call takes and returns plain numbers.
+    let answer = unsafe { ffi::osierdrum_involution_count(n) };
+    Refusal::checked(answer.refusal).map(|()| answer.count)
+}
+
+/// Writes the involution of n at a place to `out`, which is n bytes long.
+///
+/// The list is a tree, the identity first: a permutation, then its children, each with all its own children before the
+/// next. A child exchanges the values at positions l < j, where j lies above the highest position that has not its own
+/// value (above 1 if there is none), j rising, and for each j, l rising over the positions that have their own value.
+///
+/// Refusals, in this order: [`Refusal::Size`], [`Refusal::Place`], [`Refusal::Lent`].
+///
+/// ```
+/// let mut rows = [[0; 4]; 10];
+/// for (place, row) in (0..).zip(&mut rows) {
+///     osierdrum::involution_unrank(4, place, row)?;
+/// }
+/// assert_eq!(rows[0], [1, 2, 3, 4]);
+/// assert_eq!(rows[1..3], [[2, 1, 3, 4], [2, 1, 4, 3]]); // a child of the identity, and its only child
+/// assert_eq!(rows[3..6], [[3, 2, 1, 4], [3, 4, 1, 2], [1, 3, 2, 4]]);
+/// assert_eq!(rows[6..], [[4, 3, 2, 1], [4, 2, 3, 1], [1, 4, 3, 2], [1, 2, 4, 3]]);
+/// # Ok::<(), osierdrum::Refusal>(())
+/// ```
+pub fn involution_unrank(n: u64, place: u64, out: &mut [u8]) -> Result<(), Refusal> {
+    // SAFETY: the pointer and the length are those of one slice that is ours to write.
+    Refusal::checked(unsafe { ffi::osierdrum_involution_unrank(n, place, out.as_mut_ptr(), out.len()) })
+}
+
+/// The place of an involution in the list that [`involution_unrank`] tells of; n is the slice's length. An empty slice
+/// is the permutation of nothing, at place 0.
+///
+/// Refusals, in this order: [`Refusal::Size`], [`Refusal::Value`], [`Refusal::Twice`], [`Refusal::Long`].
+///
+/// ```
+/// use osierdrum::{involution_rank, Refusal};
+/// assert_eq!(involution_rank(&[3, 4, 1, 2]), Ok(4));
+/// assert_eq!(involution_rank(&[]), Ok(0));
+/// assert_eq!(involution_rank(&[3, 1, 2, 4]), Err(Refusal::Long)); // 1, 3 and 2 are one cycle
+/// ```
+pub fn involution_rank(s: &[u8]) -> Result<u64, Refusal> {
+    // SAFETY: the pointer and the length are those of one slice.
+    let answer = unsafe { ffi::osierdrum_involution_rank(s.as_ptr(), s.len()) };
     Refusal::checked(answer.refusal).map(|()| answer.place)
 }

@@ -1,10 +1,18 @@
 //! Numbers, slices and offsets that nobody should hand in, in every call, with guard bytes around what is lent: the refusal is document 01's, and
 //! no other byte changes. The same for `explain` stands in `explain.rs`, and for `exchanges` in `exchanges.rs`; more for `find` stands in `find.rs`.
+//! More for the involutions stands in `involutions.rs`.
 
 mod reference;
 
-use osierdrum::{count, find, from_array, from_inversions, rank, rows, to_array, to_inversions, unrank, Refusal};
-use reference::{damaged, short_slices, Random, Reference};
+use osierdrum::{
+    count, find, from_array, from_inversions, involution_count, involution_rank, involution_unrank, rank, rows,
+    to_array, to_inversions, unrank, Refusal,
+};
+use reference::{
+    damaged, short_slices,
+    tree::{paired, Involutions},
+    Random, Reference,
+};
 use std::fmt::Debug;
 
 /// Numbers at and beside every bound of document 01, and at the ends of the machine's words.
@@ -55,6 +63,11 @@ fn same<T: PartialEq + Debug>(
 /// The place of a permutation, as the reference has it.
 fn ranked(s: &[u8]) -> Result<(u64, u64, u64), u8> {
     rank(s).map(|stands| (stands.k, stands.place, stands.fixed)).map_err(|refusal| refusal as u8)
+}
+
+/// The place of an involution, as the reference has it.
+fn involution_ranked(s: &[u8]) -> Result<u64, u8> {
+    involution_rank(s).map_err(|refusal| refusal as u8)
 }
 
 #[test]
@@ -123,6 +136,49 @@ fn numbers_in_find() {
 }
 
 #[test]
+fn numbers_in_involutions() {
+    let reference = Involutions::new();
+    let mut met = [0u32; 8];
+    for n in NUMBERS.into_iter().chain(0..=22) {
+        let rows = reference.count(n);
+        assert_eq!(involution_count(n).map_err(|refusal| refusal as u8), rows);
+        let end = rows.unwrap_or(1);
+        for place in NUMBERS.into_iter().chain([end - 1, end, end + 1, (1 << 32) + end - 1]) {
+            for size in (0..=22).chain([64]) {
+                let refusal = same(size, |out| involution_unrank(n, place, out), |out| reference.unrank(n, place, out));
+                met[usize::from(refusal)] += 1;
+            }
+        }
+    }
+    assert!([0, 1, 3, 5].iter().all(|&refusal| met[refusal] > 0), "{met:?}");
+}
+
+#[test]
+fn slices_in_involution_rank() {
+    let reference = Involutions::new();
+    let mut random = Random(97);
+    let mut met = [0u32; 16];
+    for _ in 0..60_000 {
+        let n = random.below(22);
+        let mut s = paired(&mut random, n as usize);
+        // none to three changes
+        for _ in 0..random.below(4) * n.min(1) {
+            let (one, other) = (random.below(n) as usize, random.below(n) as usize);
+            match random.below(8) {
+                0 => s[one] = random.next() as u8,
+                1 => s[one] = random.below(n + 2) as u8,
+                2 => s[one] = s[other],
+                _ => s.swap(one, other),
+            }
+        }
+        let given = involution_ranked(&s);
+        assert_eq!(given, reference.rank(&s), "{s:?}");
+        met[usize::from(given.err().unwrap_or(0))] += 1;
+    }
+    assert!([0, 1, 6, 7, 15].iter().all(|&refusal| met[refusal] > 1_000), "{met:?}");
+}
+
+#[test]
 fn offsets_in_rows() {
     let reference = Reference::new();
     for (n, k, place, m) in [(5, 2, 0, 50), (5, 2, 49, 1), (20, 10, 12345, 3), (1, 1, 0, 1), (0, 0, 0, 1)] {
@@ -163,8 +219,10 @@ fn slices_in_rank_arrays_and_inversions() {
 #[test]
 fn every_short_slice() {
     let reference = Reference::new();
+    let involutions = Involutions::new();
     for s in short_slices() {
         assert_eq!(ranked(&s), reference.rank(&s));
+        assert_eq!(involution_ranked(&s), involutions.rank(&s));
         same(s.len(), |out| to_array(&s, out), |out| reference.to_array(&s, out));
         same(s.len(), |out| from_array(&s, out), |out| reference.from_array(&s, out));
         same(s.len(), |out| to_inversions(&s, out), |out| reference.to_inversions(&s, out));
@@ -185,4 +243,19 @@ fn all_values_before_any_repetition() {
     assert_eq!(to_inversions(&[2, 2, 0], &mut [0; 3]), Err(Refusal::Value));
     assert_eq!(to_inversions(&[2, 2, 0], &mut [0; 4]), Err(Refusal::Lent));
     assert_eq!(to_inversions(&[2, 2, 1], &mut [0; 3]), Err(Refusal::Twice));
+    assert_eq!(involution_rank(&[1, 1, 9]), Err(Refusal::Value));
+    assert_eq!(involution_rank(&[2, 2, 0]), Err(Refusal::Value));
+    assert_eq!(involution_rank(&[2, 2, 1]), Err(Refusal::Twice));
+}
+
+#[test]
+fn all_repetitions_before_any_cycle() {
+    // 1, 2 and 3 are a cycle of three
+    assert_eq!(involution_rank(&[2, 3, 1, 0, 4]), Err(Refusal::Value));
+    assert_eq!(involution_rank(&[2, 3, 1, 5, 5]), Err(Refusal::Twice));
+    assert_eq!(involution_rank(&[2, 3, 1, 5, 4]), Err(Refusal::Long));
+    assert_eq!(involution_rank(&[3, 1, 2]), Err(Refusal::Long));
+    // and these are cycles of two
+    assert_eq!(involution_rank(&[2, 1, 3, 5, 4]), Ok(4));
+    assert_eq!(involution_rank(&[2, 1]), Ok(1));
 }

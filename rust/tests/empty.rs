@@ -2,8 +2,9 @@
 //! reference; the other tests compare n = 0 with the reference among the rest.
 
 use osierdrum::{
-    count, exchanges, exchanges_into, explain, explain_into, find, from_array, from_inversions, rank, rows, to_array,
-    to_inversions, unrank, Exchanges, Explained, Explanation, Level, Rank, Refusal,
+    count, exchanges, exchanges_into, explain, explain_into, find, from_array, from_inversions, involution_count,
+    involution_rank, involution_unrank, rank, rows, to_array, to_inversions, unrank, Exchanges, Explained, Explanation,
+    Level, Rank, Refusal,
 };
 
 /// A call on a lent slice of `size` bytes, with guards: its result. No byte changes, whether it is served or refused.
@@ -122,6 +123,31 @@ fn search_without_positions() {
         assert_eq!(find(1, 1, 0, &[entry], &mut out), Ok(0));
         assert_eq!(out, [1]);
     }
+}
+
+#[test]
+fn the_involution_of_nothing() {
+    assert_eq!(involution_count(0), Ok(1));
+    assert_eq!(involution_count(1), Ok(1));
+    assert_eq!(lent(0, |out| involution_unrank(0, 0, out)), Ok(()));
+    assert_eq!(lent(1, |out| involution_unrank(0, 0, out)), Err(Refusal::Lent));
+    assert_eq!(lent(0, |out| involution_unrank(1, 0, out)), Err(Refusal::Lent));
+    for size in [0, 1] {
+        for place in [1, 2, 1 << 32, u64::MAX] {
+            assert_eq!(lent(size, |out| involution_unrank(0, place, out)), Err(Refusal::Place));
+            assert_eq!(lent(size, |out| involution_unrank(1, place, out)), Err(Refusal::Place));
+            assert_eq!(lent(size, |out| involution_unrank(21, place, out)), Err(Refusal::Size));
+        }
+    }
+    let mut out = [7];
+    assert_eq!(involution_unrank(1, 0, &mut out), Ok(()));
+    assert_eq!(out, [1]);
+    assert_eq!(involution_rank(&[]), Ok(0));
+    assert_eq!(involution_rank(&[1]), Ok(0));
+    for value in [0, 2, 255] {
+        assert_eq!(involution_rank(&[value]), Err(Refusal::Value));
+    }
+    assert_eq!(involution_rank(&[0; 21]), Err(Refusal::Size));
 }
 
 #[test]

@@ -1,4 +1,4 @@
--- The request's demands 2 and 3 as theorems, and what document 02, b) to i), adds, to be read from top to bottom beside them. Each is a law of a crate below, stated
+-- The request's demands 2 and 3 as theorems, and what document 02, b) to j), adds, to be read from top to bottom beside them. Each is a law of a crate below, stated
 -- in full here so that nothing has to be looked up but the definitions in specs/. What demand 1 asks is met by the proofs of the functions themselves
 -- (docs/DEMANDS.md says how). Assumes nothing.
 use mathlib.Core.Path.{_≡_, _∙_, sym, ap}
@@ -6,14 +6,14 @@ use mathlib.Core.Logic.{_⊎_}
 use Prim.Native.Nat.{ℕ, suc, _+_, _-_, _*_, _≤_, _<_, _^_}
 use mathlib.Core.Bool.{Bool, true, false}
 use mathlib.Core.List.{List, _∷_, _++_}
-use lib.Dec.{eqb}
+use lib.Dec.{eqb, ltb}
 use lib.ListN.{length, getD, take, replicate}
 use Rattle.stirling.specs.Refusal.{refuse, unless}
 use Rattle.stirling.specs.Count.{c, countOf, checkCycles, checkPlace}
-use Rattle.stirling.proofs.Counts.{cycles-passes, cycles-passed, fits}
+use Rattle.stirling.proofs.Counts.{size-passes, cycles-passes, cycles-passed, fits}
 use Rattle.perm.specs.Lists.{tally, positions}
-use Rattle.perm.specs.Permutation.{IsPermutation, IsPartial, at, fixed, distance}
-use Rattle.perm.specs.Cycle.{cycles}
+use Rattle.perm.specs.Permutation.{IsPermutation, IsPartial, at, fixed, exchange, distance}
+use Rattle.perm.specs.Cycle.{cycles, follow}
 use Rattle.perm.specs.Array.{IsArray, IsArrayOf, product, position}
 use Rattle.perm.specs.declared.Array.{Array}
 use Rattle.perm.specs.Checks.{checkToArray, checkPermutation, ToArray}
@@ -65,6 +65,19 @@ use Rattle.find.specs.Counting.{meeting}
 use Rattle.find.proofs.Counting.{counted, none-meets}
 use Rattle.find.proofs.Results as Results
 use Rattle.find.proofs.Cases as Searches
+use Rattle.tree.specs.Tree.{Rule, highest, each, subtree, involutions}
+use Rattle.tree.specs.Involution.{longer, IsInvolution}
+use Rattle.tree.specs.Listing.{Holds}
+use Rattle.tree.specs.Calls.{countOf as involutionCount, checkRank, rankOf}
+use Rattle.tree.specs.Sizes.{size}
+use Rattle.tree.proofs.Settled.{highest-settled, highest-away}
+use Rattle.tree.proofs.Subtree as Subtrees
+use Rattle.tree.proofs.Involutions as Involutions
+use Rattle.tree.proofs.Places.{size-involutions}
+use Rattle.tree.proofs.Checked.{involution-passed}
+use Rattle.tree.proofs.RoundTrip.{longer-open, longer-closed}
+use Rattle.tree.proofs.RoundTrip as Trips
+use Rattle.tree.proofs.Cases as Trees
 use Rattle.cursor.specs.declared.Cursor.{Cursor}
 use Rattle.cursor.specs.declared.Opening.{Opening}
 use Rattle.cursor.specs.declared.Opening.the-variants.{Whole, Section}
@@ -435,3 +448,51 @@ count-none = none-meets
 -- examples
 pub find-cases : Searches.Table
 find-cases = Searches.table
+
+-- ---- Document 02, j): the permutations with no cycle longer than two, as a tree. `involutions n` is the list of n; `countOf`, `checkUnrank` and `rankOf` of crate `tree` are what
+-- the calls answer for every input
+
+-- the sentence that fixes the order, for any rule that says which l may be used: the rows of a subtree are its permutation, then the subtrees of its children, j rising above the
+-- highest position whose value is away, for each j, l rising over the positions below j that the rule allows
+pub subtree-sentence : (rule : Rule) (n : ℕ) {s : List ℕ} → IsPermutation n s
+    → subtree rule n s ≡ s ∷ each (ltb (highest s)) (λ j. each (rule s) (λ l. subtree rule n (exchange l j s)) (j - 1)) n
+subtree-sentence = Subtrees.sentence
+
+-- that highest position: above it every position has its own value, and it is 1 or its value is away
+pub highest-position : (s : List ℕ) → ((i : ℕ) → highest s < i → i ≤ length s → at s i ≡ i) × ((highest s ≡ 1) ⊎ (at s (highest s) ≡ highest s → ⊥))
+highest-position s = (highest-settled s (length s), highest-away s (length s))
+
+-- a cycle longer than two: followed from any of its positions, it closes after three steps or more
+pub longer-than-two : (s : List ℕ) (i : ℕ) → longer s i ≡ true → (t : ℕ) → 1 ≤ t → follow s t i ≡ i → 3 ≤ t
+longer-than-two = longer-open
+
+-- and any other closes after one step or two, so that two lead back
+pub at-most-two : (s : List ℕ) (i : ℕ) → longer s i ≡ false → follow s 2 i ≡ i
+at-most-two = longer-closed
+
+-- the list holds every permutation of n with no cycle longer than two exactly once, and nothing else
+pub involutions-complete : (n : ℕ) → Holds (IsInvolution n) (involutions n)
+involutions-complete = Involutions.complete
+
+-- its length, which is the count, is T(0,n): T(f,0) = 1, T(f,m) = T(f+1,m−1) + f×T(f−1,m−1)
+pub involutions-count : (n : ℕ) → n ≤ 20 → involutionCount n ≡ record { refusal = 0; count = size 0 n }
+involutions-count n u = rw (size-passes n u, size-involutions n)
+
+-- place and permutation are inverse: the row at a place has that place
+pub involution-place : (n place : ℕ) → n ≤ 20 → place < length (involutions n) → rankOf (rowAt (involutions n) place) ≡ record { refusal = 0; place = place }
+involution-place = Trips.place-back
+
+-- and where nothing is refused, the place found is one of the list, and the row at it is the permutation
+pub involution-row : (s : List ℕ) → checkRank s ≡ 0 → (rankOf s .place < length (involutions (length s))) × (rowAt (involutions (length s)) (rankOf s .place) ≡ s)
+involution-row = Trips.row-back
+
+-- nothing is refused where the slice is an involution of at most 20 values, and only there
+pub involution-taken : (s : List ℕ) → length s ≤ 20 → IsInvolution (length s) s → checkRank s ≡ 0
+involution-taken s u k = Trips.involution-passes u k
+
+pub only-involutions : (s : List ℕ) → checkRank s ≡ 0 → (length s ≤ 20) × IsInvolution (length s) s
+only-involutions = involution-passed
+
+-- the list for four that the document writes out, and edges
+pub involution-cases : Trees.Table
+involution-cases = Trees.table

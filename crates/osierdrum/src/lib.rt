@@ -4,6 +4,7 @@ use explain::Explanation;
 use explain::Level;
 use find::Found;
 use perm::Array;
+use tree::Place;
 ghost use mathlib.Core.Path.{_≡_};
 ghost use lib.ListN.{length};
 ghost use Rattle.perm.specs.Checks.{ToArray, FromArray};
@@ -12,7 +13,8 @@ ghost use Rattle.explain.specs.Explain.{Explains};
 ghost use Rattle.exchanges.specs.Between.{Exchanged};
 ghost use Rattle.inversion.specs.Calls.{FromInversions, ToInversions};
 ghost use Rattle.find.specs.Find.{findOf, writtenBy};
-ghost use Rattle.osierdrum.specs.Exports.{counted, standing};
+ghost use Rattle.tree.specs.Calls.{checkUnrank as checkInvolution, writtenBy as involutionWritten, rankOf};
+ghost use Rattle.osierdrum.specs.Exports.{counted, involutionsCounted, standing};
 
 // A count, or a refusal with 0.
 #[repr(C)]
@@ -136,4 +138,33 @@ pub extern "C" fn osierdrum_find(n: u64, k: u64, place: u64, wishes: &[u8], out:
     ensures row { λ r. ⌜ now (out .exit) ≡ writtenBy n k r (now (out .entry)) ⌝ }
 {
     find::find(n, k, place, wishes, out)
+}
+
+// How many involutions of n there are, the permutations with no cycle longer than two. Refusal 1.
+#[no_mangle]
+pub extern "C" fn osierdrum_involution_count(n: u64) -> Count
+    ensures { λ r. ⌜ r ≡ involutionsCounted n ⌝ }
+{
+    let counted = tree::involution_count(n);
+    Count {
+        refusal: counted.refusal,
+        count: counted.count,
+    }
+}
+
+// The involution at a place of the list of n. Refusals 1, 3, 5.
+#[no_mangle]
+pub extern "C" fn osierdrum_involution_unrank(n: u64, place: u64, out: &mut [u8]) -> u8
+    ensures refusal { λ r. ⌜ r ≡ checkInvolution n place (length (now (out .entry))) ⌝ }
+    ensures row { λ r. ⌜ now (out .exit) ≡ involutionWritten n place r (now (out .entry)) ⌝ }
+{
+    tree::involution_unrank(n, place, out)
+}
+
+// The place of an involution. Refusals 1, 6, 7, 15.
+#[no_mangle]
+pub extern "C" fn osierdrum_involution_rank(s: &[u8]) -> Place
+    ensures { λ r. ⌜ r ≡ rankOf (now (s .entry)) ⌝ }
+{
+    tree::involution_rank(s)
 }

@@ -41,6 +41,17 @@ static int empty_list(void) {
         if (found.refusal != 5 || found.place != 0) return 50;
     }
 
+    count = osierdrum_involution_count(0);
+    if (count.refusal != 0 || count.count != 1) return 13;
+    for (size_t len = 0; len <= 1; len++) {
+        if (osierdrum_involution_unrank(0, 0, lent + 1, len) != (len == 0 ? 0 : 5)) return 14;
+        if (osierdrum_involution_unrank(0, 1, lent + 1, len) != 3) return 15;
+    }
+    struct osierdrum_Place place = osierdrum_involution_rank(&byte, 0);
+    if (place.refusal != 0 || place.place != 0) return 16;
+    place = osierdrum_involution_rank(&byte, 1);
+    if (place.refusal != 6 || place.place != 0) return 17;
+
     for (size_t len = 0; len <= 1; len++) {
         uint8_t longer = len == 0 ? 0 : 5;
         if (osierdrum_unrank(0, 0, 0, lent + 1, len) != longer) return 25;
@@ -201,6 +212,42 @@ static int search(void) {
     return memcmp(row, (const uint8_t[]){99, 3, 5, 4, 1, 2, 99}, 7) == 0 ? 0 : 113;
 }
 
+static int involutions(void) {
+    struct osierdrum_Count count = osierdrum_involution_count(20);
+    if (count.refusal != 0 || count.count != 23758664096) return 121;
+    count = osierdrum_involution_count(21);
+    if (count.refusal != 1 || count.count != 0) return 122;
+
+    uint8_t row[6] = {99, 99, 99, 99, 99, 99};
+    if (osierdrum_involution_unrank(21, 10, row + 1, 5) != 1) return 123;
+    if (osierdrum_involution_unrank(4, 10, row + 1, 5) != 3) return 124;
+    if (osierdrum_involution_unrank(4, 9, row + 1, 5) != 5) return 125;
+    if (osierdrum_involution_unrank(4, 9, row + 1, 3) != 5) return 126;
+    if (memcmp(row, (const uint8_t[]){99, 99, 99, 99, 99, 99}, 6) != 0) return 127;
+
+    const uint8_t rows[10][4] = {{1, 2, 3, 4}, {2, 1, 3, 4}, {2, 1, 4, 3}, {3, 2, 1, 4}, {3, 4, 1, 2},
+                                 {1, 3, 2, 4}, {4, 3, 2, 1}, {4, 2, 3, 1}, {1, 4, 3, 2}, {1, 2, 4, 3}};
+    struct osierdrum_Place found;
+    for (uint64_t place = 0; place < 10; place++) {
+        if (osierdrum_involution_unrank(4, place, row + 1, 4) != 0) return 128;
+        if (row[0] != 99 || memcmp(row + 1, rows[place], 4) != 0 || row[5] != 99) return 129;
+        found = osierdrum_involution_rank(rows[place], 4);
+        if (found.refusal != 0 || found.place != place) return 130;
+    }
+
+    /* a cycle of three in each, and in all but the last what is refused earlier */
+    const uint8_t wide[21] = {2, 3, 1}, outside[6] = {2, 3, 1, 4, 4, 7}, twice[6] = {2, 3, 1, 4, 6, 6};
+    const uint8_t cycle[6] = {2, 3, 1, 4, 6, 5};
+    const uint8_t *refused[4] = {wide, outside, twice, cycle};
+    const size_t sizes[4] = {sizeof wide, sizeof outside, sizeof twice, sizeof cycle};
+    const uint8_t numbers[4] = {1, 6, 7, 15};
+    for (size_t i = 0; i < 4; i++) {
+        found = osierdrum_involution_rank(refused[i], sizes[i]);
+        if (found.refusal != numbers[i] || found.place != 0) return 131;
+    }
+    return 0;
+}
+
 int main(void) {
     struct osierdrum_Count count = osierdrum_count(5, 2);
     if (count.refusal != 0 || count.count != 50) return 1;
@@ -229,5 +276,6 @@ int main(void) {
     if (wrong == 0) wrong = fixed_points();
     if (wrong == 0) wrong = inversions();
     if (wrong == 0) wrong = search();
+    if (wrong == 0) wrong = involutions();
     return wrong != 0 ? wrong : empty_list();
 }

@@ -6,6 +6,7 @@
 
 mod find;
 pub mod relations;
+pub mod tree;
 
 use osierdrum::Level;
 

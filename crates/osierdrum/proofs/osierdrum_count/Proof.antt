@@ -1,20 +1,15 @@
 -- `osierdrum_count` meets its contract: it hands on what `stirling::count` answers. Assumes nothing.
 use mathlib.Core.Path.{ap}
 use borrow.Author.Needs.{needs}
-use Rattle.stirling.specs.declared.Counted.{Counted}
-use Rattle.osierdrum.specs.declared.Count.{Count}
+use Rattle.osierdrum.specs.Exports.{exported}
 use Rattle.osierdrum.proofs.osierdrum_count.Statement.{statement}
 use Rattle.osierdrum.proofs.osierdrum_count.Tie as tie
-
-handed-on : Counted → Count
-handed-on r = record { refusal = r .refusal; count = r .count }
 
 count-requires : tie.Need-count-requires
 count-requires c κs = search needs
 
 returns : tie.Need-returns
-unfolding handed-on
-returns c = ap handed-on (c .count .ensures)
+returns c = ap exported (c .count .ensures)
 
 pub osierdrum-count-spec : {M : Type 1} → statement M
 osierdrum-count-spec = tie.close (tie.spec count-requires returns)

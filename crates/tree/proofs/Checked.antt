@@ -1,0 +1,168 @@
+-- What the calls rest on: what is known where their checks pass, where the searches begin, and what a place found says. Assumes nothing.
+use mathlib.Core.Path.{_≡_, refl, sym, ap, _∙_}
+use Prim.Native.Nat.{ℕ, zero, suc, _-_, _≤_, _<_}
+use native.Mathlib.Omega.{arith}
+use mathlib.Core.Bool.{not}
+use mathlib.Core.Logic.{_≢_}
+use mathlib.Core.List.{List, [], _∷_, _++_}
+use lib.Dec.{eqb, leb}
+use lib.ListN.{length, take, drop, length-append}
+use lib.Seq.{length-take-le, take-at}
+use borrow.Author.Tests.{eqb-true, leb-false, ltb-false, not-false}
+use Rattle.stirling.specs.Refusal.{refuse, _then_}
+use Rattle.stirling.specs.Count.{checkSize}
+use Rattle.stirling.proofs.Refusals.{refuse-passed, then-passed}
+use Rattle.stirling.proofs.Counts.{size-passes, size-passed}
+use Rattle.perm.specs.Lists.{tally, some, range, positions}
+use Rattle.perm.specs.Permutation.{IsPermutation}
+use Rattle.perm.specs.Array.{IsArray, IsArrayOf, partial, product}
+use Rattle.perm.specs.Checks.{checkLent, checkValues, checkTwice, checkPermutation, checkFromArray, ToArray, FromArray}
+use Rattle.perm.specs.declared.Array.{Array}
+use Rattle.perm.proofs.Tally.{length-range, range-none-passes}
+use Rattle.perm.proofs.Values.{at-positions}
+use Rattle.perm.proofs.Exchange.{exchange-same}
+use Rattle.perm.proofs.Arrays.{product-partial}
+use Rattle.perm.proofs.Checked.{checked, passes-values, passes-twice, passes-array}
+use Rattle.perm.proofs.Refused.{lent-passes}
+use Rattle.perm.proofs.Same.{same-equal, same-false}
+use Rattle.tree.specs.Tree.{home, involutions}
+use Rattle.tree.specs.Involution.{longer, IsInvolution}
+use Rattle.tree.specs.Listing.{rowAt, placeIn}
+use Rattle.tree.specs.Calls.{checkPlace, checkUnrank, checkLong, checkRank}
+use Rattle.tree.specs.Sizes.{size}
+use Rattle.tree.specs.Search.{rows, Stands, Leads}
+use Rattle.tree.proofs.Settled.{identity-settled}
+use Rattle.tree.proofs.Subtree.{tree-rows}
+use Rattle.tree.proofs.Once.{only, partial-allowed}
+use Rattle.tree.proofs.Involutions.{involutions-fit}
+use Rattle.tree.proofs.Places.{size-involutions}
+
+-- where checks 1, 6 and 7 pass, the slice is short and a permutation
+pub permutation-passed : (s : List ℕ) → checkPermutation s ≡ 0 → (length s ≤ 20) × IsPermutation (length s) s
+permutation-passed s e =
+    let (most, twice) = then-passed (checkSize (length s) then checkValues s) (checkTwice s) e in
+    let (fits, values) = then-passed (checkSize (length s)) (checkValues s) most in
+    (size-passed (length s) fits, checked s values twice)
+
+-- where check 15 passes too, it is an involution
+pub involution-passed : (s : List ℕ) → checkRank s ≡ 0 → (length s ≤ 20) × IsInvolution (length s) s
+involution-passed s e =
+    let (most, long) = then-passed (checkPermutation s) (checkLong s) e in
+    let (fits, p) = permutation-passed s most in
+    let none = ltb-false 0 (tally (longer s) (positions (length s))) (refuse-passed (some (longer s) (positions (length s))) 14 long) in
+    (fits, record { permutation = p; short = λ i a b. range-none-passes (longer s) 1 (length s) (omega arith) i a (omega arith) })
+
+-- where checks 1, 3 and 5 pass, n is at most 20, the place one of the list, and the slice n long
+pub unrank-passed : (n place lent : ℕ) → checkUnrank n place lent ≡ 0 → (n ≤ 20) × (place < size 0 n) × (lent ≡ n)
+unrank-passed n place lent e =
+    let (most, room) = then-passed (checkPlace n place) (checkLent n lent) e in
+    let (fits, inside) = then-passed (checkSize n) (refuse (leb (length (involutions n)) place) 3) most in (
+      size-passed n fits,
+      omega (arith, size-involutions n, leb-false (length (involutions n)) place (refuse-passed (leb (length (involutions n)) place) 2 inside)),
+      eqb-true lent n (not-false _ (refuse-passed (not (eqb lent n)) 4 room)),
+    )
+
+-- the first numbers of a range
+take-range : (a n m : ℕ) → n ≤ m → take n (range a m) ≡ range a n
+unfolding range
+take-range a zero m u = refl
+take-range a (suc n) zero u = absurd (omega arith)
+take-range a (suc n) (suc m) u = ap (λ l. a ∷ l) (take-range (suc a) n m (omega arith))
+
+-- the identity of 20 as the code has it
+abbrev pub twenty : List ℕ
+twenty = 1 ∷ 2 ∷ 3 ∷ 4 ∷ 5 ∷ 6 ∷ 7 ∷ 8 ∷ 9 ∷ 10 ∷ 11 ∷ 12 ∷ 13 ∷ 14 ∷ 15 ∷ 16 ∷ 17 ∷ 18 ∷ 19 ∷ 20 ∷ []
+
+-- its first n values are the identity of n
+pub first-values : (n : ℕ) → n ≤ 20 → take n twenty ≡ positions n
+unfolding range
+first-values n u = take-range 1 n 20 u
+
+pub first-length : (n : ℕ) → n ≤ 20 → n ≡ length (take n twenty)
+first-length n u = rw (first-values n u) (sym (length-range 1 n))
+
+-- the identity is its own array
+pub identity-array : (n : ℕ) → IsArray n (positions n)
+identity-array n = record { size = length-range 1 n; bound = λ i a b. (omega (arith, at-positions n i a b), omega (arith, at-positions n i a b)) }
+
+identity-partial : (n m : ℕ) → m ≤ n → partial n (positions n) m ≡ positions n
+unfolding partial
+identity-partial n zero u = refl
+identity-partial n (suc m) u = rw (at-positions n (suc m) (omega arith) u, identity-partial n m (omega arith)) (exchange-same (suc m) (positions n))
+
+pub identity-product : (n : ℕ) → product (positions n) ≡ positions n
+identity-product n = product-partial (positions n) (length-range 1 n) ∙ identity-partial n n (omega arith)
+
+-- so what is written from it is the identity
+pub identity-written : (n : ℕ) {before after : List ℕ} {r : ℕ} → n ≤ 20 → length before ≡ n → FromArray (take n twenty) before r after → after ≡ positions n
+identity-written n {before} {after} {r} u e w =
+    let p = first-values n u in
+    let z = length-range 1 n in
+    let passed : checkFromArray (positions n) n ≡ 0 = rw (z, size-passes n u, ← (lent-passes n n refl)) (rw z at (passes-array (identity-array n))) in
+    let refusal : r ≡ 0 = w .refusal ∙ rw (p, e) passed in
+    w .written refusal ∙ rw p (identity-product n)
+
+-- the array of a permutation, written to the front of 20 bytes
+module _ (s z : List ℕ) {after : List ℕ} {r : Array} (e : length z ≡ 20) (u : length s ≤ 20) (p : IsPermutation (length s) s) (w : ToArray s (take (length s) z) r after) where
+  made-passed : r .refusal ≡ 0
+  made-passed =
+      w .refusal
+      ∙ rw (size-passes (length s) u, ← (lent-passes (length s) (length (take (length s) z)) (length-take-le (length s) z (omega arith))), passes-values p) (passes-twice p)
+
+  pub array-made : IsArrayOf s (take (length s) (after ++ drop (length s) z))
+  array-made = rw (take-at after (drop (length s) z) (length s) (w .written made-passed .array .size)) (w .written made-passed)
+
+  pub array-room : length s ≤ length (after ++ drop (length s) z)
+  array-room = omega (arith, length-append after (drop (length s) z), w .written made-passed .array .size)
+
+-- where the searches begin
+pub identity-stands : (n : ℕ) {s : List ℕ} → n ≤ 20 → s ≡ positions n → Stands n 0 s
+unfolding tally range
+identity-stands n {s} u e =
+    let z = length-range 1 n in
+    let y : length (positions n) - n ≡ 0 = omega arith in
+    rw e (record { small = omega arith; room = omega arith; settled = rw (y, z) (identity-settled n); usable = rw y })
+
+-- the rows from there on are the list
+pub identity-rows : (n : ℕ) {s : List ℕ} → s ≡ positions n → rows home (length s - n) n s ≡ involutions n
+identity-rows n {s} e =
+    let y : length (positions n) - n ≡ 0 = omega (arith, length-range 1 n) in
+    rw (e, y) (sym (tree-rows home n))
+
+-- the array of an involution leads to it
+involution-leads : {n : ℕ} {s a : List ℕ} → IsInvolution n s → IsArray n a → product a ≡ s → Leads a 0 (positions n)
+unfolding partial
+involution-leads {n} {s} {a} k w e =
+    let last : IsInvolution n (partial n a n) = rw (← (product-partial a (w .size)), e) k in
+    record { array = rw (w .size) w; here = rw (w .size); allowed = rw (w .size) (λ i b u. partial-allowed (involutions-fit n) a w last i u) }
+
+-- a place that has s, where no place before it has, is its place
+placed-first : (s : List ℕ) (rows : List (List ℕ)) (r : ℕ) → r < length rows → rowAt rows r ≡ s → ((q : ℕ) → q < r → rowAt rows q ≢ s) → placeIn s rows ≡ r
+unfolding placeIn
+placed-first s [] r u e d = absurd (omega arith)
+placed-first s (t ∷ rows) zero u e d = rw (same-equal s t (sym e))
+placed-first s (t ∷ rows) (suc r) u e d =
+    rw (same-false s t (λ f. d 0 (omega arith) (sym f))) (ap suc (placed-first s rows r (omega arith) e (λ q v. d (suc q) (omega arith))))
+
+-- so in the list, where no row stands twice
+pub placed : (n r : ℕ) (s : List ℕ) → r < length (involutions n) → rowAt (involutions n) r ≡ s → placeIn s (involutions n) ≡ r
+placed n r s u e = placed-first s (involutions n) r u e (λ q v f. omega (arith, only home n q r (omega arith) u (f ∙ sym e)))
+
+-- the search for the place of an involution with array a, from the first values of the code's identity on
+module _ (s a : List ℕ) (u : length s ≤ 20) (k : IsInvolution (length s) s) (w : IsArrayOf s a) where
+  abbrev start : List ℕ
+  start = take (length s) twenty
+
+  begins : start ≡ positions (length s)
+  begins = first-values (length s) u
+
+  pub search-begins : Stands (length s) 0 start × (length a ≡ length start) × Leads a (length start - length s) start
+  search-begins =
+      let z = length-range 1 (length s) in
+      let y : length (positions (length s)) - length s ≡ 0 = omega arith in
+      (identity-stands (length s) u begins, rw begins (w .array .size ∙ sym z), rw (begins, y) (involution-leads k (w .array) (w .equal)))
+
+  pub search-ends : (r : ℕ) → r < size 0 (length s) → rowAt (rows home (length start - length s) (length s) start) r ≡ product a → r ≡ placeIn s (involutions (length s))
+  search-ends r v e =
+      let row : rowAt (involutions (length s)) r ≡ s = ap (λ l. rowAt l r) (sym (identity-rows (length s) begins)) ∙ e ∙ w .equal in
+      sym (placed (length s) r s (omega (arith, size-involutions (length s))) row)

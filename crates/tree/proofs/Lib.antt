@@ -1,0 +1,13 @@
+pub mod Each
+pub mod Settled
+pub mod Subtree
+pub mod Once
+pub mod Involution
+pub mod Involutions
+pub mod Sizes
+pub mod Places
+pub mod Descent
+pub mod Steps
+pub mod Checked
+pub mod RoundTrip
+pub mod Cases
