@@ -21,7 +21,7 @@ use Rattle.perm.proofs.Pigeonhole.{pigeonhole, minimum}
 
 -- ---- following
 
-follow-add : (s : List ℕ) (t u i : ℕ) → follow s (t + u) i ≡ follow s t (follow s u i)
+pub follow-add : (s : List ℕ) (t u i : ℕ) → follow s (t + u) i ≡ follow s t (follow s u i)
 unfolding follow
 follow-add s zero u i = rw zero-add
 follow-add s (suc t) u i = rw suc-add (ap (at s) (follow-add s t u i))
@@ -67,7 +67,7 @@ partial p = record {
   apart = λ i j hi ki hj kj e _. injective p i j hi ki hj kj e;
 }
 
-follow-range : {n : ℕ} {s : List ℕ} → IsPermutation n s → (t i : ℕ) → 1 ≤ i → i ≤ n → (1 ≤ follow s t i) × (follow s t i ≤ n)
+pub follow-range : {n : ℕ} {s : List ℕ} → IsPermutation n s → (t i : ℕ) → 1 ≤ i → i ≤ n → (1 ≤ follow s t i) × (follow s t i ≤ n)
 unfolding follow
 follow-range p zero i h k = (h, k)
 follow-range {n} {s} p (suc t) i h k = let r = follow-range p t i h k in in-range p (follow s t i) (r .0) (r .1)
@@ -83,20 +83,20 @@ module _ (s : List ℕ) (i c : ℕ) (h : 1 ≤ c) (q : follow s c i ≡ i) where
   met-step t u e (inl d) = (0, h, ap (at s) e ∙ ap (λ x. follow s x i) d ∙ q)
   met-step t u e (inr l) = (suc u, l, ap (at s) e)
 
-  met-before : (t : ℕ) → (u : ℕ) × (u < c) × (follow s t i ≡ follow s u i)
+  pub met-before : (t : ℕ) → (u : ℕ) × (u < c) × (follow s t i ≡ follow s u i)
   met-before zero = (0, h, refl)
   met-before (suc t) = let (u, l, e) = met-before t in met-step t u e (eq-or-lt-of-le l)
 
 module _ {n : ℕ} {s : List ℕ} (p : IsPermutation n s) (i : ℕ) (h : 1 ≤ i) (k : i ≤ n) where
   -- what is met from i is met within n steps
-  met-within : (t : ℕ) → (u : ℕ) × (u ≤ n) × (follow s t i ≡ follow s u i)
+  pub met-within : (t : ℕ) → (u : ℕ) × (u ≤ n) × (follow s t i ≡ follow s u i)
   met-within t =
       let (c, l, m, q) = closes p i h k in
       let (u, b, e) = met-before s i c l q t in
       (u, omega arith, e)
 
   -- what is met from i is met from each position that is met from i
-  met-from : (t u : ℕ) → (v : ℕ) × (follow s u i ≡ follow s v (follow s t i))
+  pub met-from : (t u : ℕ) → (v : ℕ) × (follow s u i ≡ follow s v (follow s t i))
   met-from t u =
       let (c, l, m, q) = closes p i h k in
       let (w, b, e) = met-before s i c l q t in
@@ -115,10 +115,10 @@ one-false true h = absurd (h tt)
 one-false false h = refl
 
 -- no position met from i is below i, however many steps are made
-abbrev Low : List ℕ → ℕ → Type 0
+abbrev pub Low : List ℕ → ℕ → Type 0
 Low s i = (t : ℕ) → i ≤ follow s t i
 
-low-least : (s : List ℕ) (i : ℕ) → Low s i → T (least s i)
+pub low-least : (s : List ℕ) (i : ℕ) → Low s i → T (least s i)
 unfolding least
 low-least s i low = rw (range-tally-none (λ t. ltb (follow s t i) i) 1 (length s) (λ t _ _. le-ltb _ _ (low t))) tt
 
@@ -143,7 +143,7 @@ has-least {n} {s} p i h k =
     (t, b, low-least s (follow s t i) (λ u. let (v, c, e) = met-within p i h k (u + t) in rw (← follow-add s u t i, e) (low v c)))
 
 -- a least position on the cycle of i is at most each position of the cycle
-least-le : {n : ℕ} {s : List ℕ} → IsPermutation n s → (i t u : ℕ) → 1 ≤ i → i ≤ n → T (least s (follow s t i)) → follow s t i ≤ follow s u i
+pub least-le : {n : ℕ} {s : List ℕ} → IsPermutation n s → (i t u : ℕ) → 1 ≤ i → i ≤ n → T (least s (follow s t i)) → follow s t i ≤ follow s u i
 least-le {n} {s} p i t u h k l =
     let r = follow-range p t i h k in
     let (v, e) = met-from p i h k t u in
@@ -155,10 +155,10 @@ pub one-least : {n : ℕ} {s : List ℕ} → IsPermutation n s → (i t u : ℕ)
 one-least p i t u h k lt lu = le-antisymm (least-le p i t u h k lt) (least-le p i u t h k lu)
 
 -- a position that leads to itself is least, and one that leads below itself is not
-fixed-least : (s : List ℕ) (i : ℕ) → at s i ≡ i → T (least s i)
+pub fixed-least : (s : List ℕ) (i : ℕ) → at s i ≡ i → T (least s i)
 fixed-least s i e = low-least s i (λ t. omega (arith, follow-fixed s i e t))
 
-falls-least : (s : List ℕ) (i : ℕ) → 1 ≤ length s → at s i < i → T (least s i) → ⊥
+pub falls-least : (s : List ℕ) (i : ℕ) → 1 ≤ length s → at s i < i → T (least s i) → ⊥
 unfolding follow
 falls-least s i h k l = omega (arith, least-bound s i l 1 h)
 
@@ -175,7 +175,7 @@ data Met (m : ℕ) (γ s : List ℕ) (j x : ℕ) : Type 0 where
   new : (u : ℕ) → x ≡ suc m → at s (suc m) ≡ follow γ u j → Met m γ s j x
 
 -- tests that imply one another are equal
-same-test : (a b : Bool) → (T a → T b) → (T b → T a) → a ≡ b
+pub same-test : (a b : Bool) → (T a → T b) → (T b → T a) → a ≡ b
 same-test true true f g = refl
 same-test true false f g = absurd (f tt)
 same-test false true f g = absurd (g tt)
