@@ -5,8 +5,10 @@
 #[path = "../tests/reference/mod.rs"]
 mod reference;
 
-use osierdrum::Level;
-use reference::{shuffled, tree::Involutions, Random, Reference};
+use osierdrum::{
+    bell_count, bell_rank, bell_unrank, involution_count, involution_rank, involution_unrank, Level, Refusal,
+};
+use reference::{shuffled, tree::Tree, Random, Reference};
 use std::{hint::black_box, iter::successors, time::Instant};
 
 const PLACES: usize = 256;
@@ -186,9 +188,43 @@ fn worst_search() {
     println!("which is {:?} from place {}", worst.search.pattern, worst.search.place);
 }
 
+/// The lines of a list that is a tree: its calls in the library, by their names, beside the reference's.
+fn tree_lines(
+    names: [&str; 3],
+    n: u64,
+    random: &mut Random,
+    reference: &Tree,
+    count: impl Fn(u64) -> Result<u64, Refusal>,
+    unrank: impl Fn(u64, u64, &mut [u8]) -> Result<(), Refusal>,
+    rank: impl Fn(&[u8]) -> Result<u64, Refusal>,
+) {
+    let rows = count(n).expect("1 to 20");
+    let places: Vec<u64> = (0..PLACES).map(|_| random.below(rows)).collect();
+    let mut out = vec![0u8; n as usize];
+    let made: Vec<Vec<u8>> = places
+        .iter()
+        .map(|&place| {
+            unrank(n, place, &mut out).expect("a place of the list");
+            out.clone()
+        })
+        .collect();
+
+    let ours = nanoseconds(|_| _ = black_box(count(black_box(n))));
+    let theirs = nanoseconds(|_| _ = black_box(reference.count(black_box(n))));
+    line(names[0], n, ours, theirs);
+
+    let ours = nanoseconds(|i| _ = black_box(unrank(n, black_box(places[i]), &mut out)));
+    let theirs = nanoseconds(|i| _ = black_box(reference.unrank(n, black_box(places[i]), &mut out)));
+    line(names[1], n, ours, theirs);
+
+    let ours = nanoseconds(|i| _ = black_box(rank(black_box(&made[i]))));
+    let theirs = nanoseconds(|i| _ = black_box(reference.rank(black_box(&made[i]))));
+    line(names[2], n, ours, theirs);
+}
+
 fn main() {
     let reference = Reference::new();
-    let involutions = Involutions::new();
+    let (involutions, bell) = (Tree::involutions(), Tree::bell());
     println!("{:<17} {:>2} {:>12} {:>12} {:>7}", "call", "n", "library ns", "Rust ns", "ratio");
     for n in [5u64, 10, 15, 20] {
         let k = n / 3 + 1;
@@ -260,27 +296,10 @@ fn main() {
         let theirs = nanoseconds(|i| _ = black_box(reference.find(n, k, black_box(places[i]), entry(i), &mut out)));
         line("find", n, ours, theirs);
 
-        let count = osierdrum::involution_count(n).expect("1 to 20");
-        let places: Vec<u64> = (0..PLACES).map(|_| random.below(count)).collect();
-        let made: Vec<Vec<u8>> = places
-            .iter()
-            .map(|&place| {
-                osierdrum::involution_unrank(n, place, &mut out).expect("a place of the list");
-                out.clone()
-            })
-            .collect();
-
-        let ours = nanoseconds(|_| _ = black_box(osierdrum::involution_count(black_box(n))));
-        let theirs = nanoseconds(|_| _ = black_box(involutions.count(black_box(n))));
-        line("involution_count", n, ours, theirs);
-
-        let ours = nanoseconds(|i| _ = black_box(osierdrum::involution_unrank(n, black_box(places[i]), &mut out)));
-        let theirs = nanoseconds(|i| _ = black_box(involutions.unrank(n, black_box(places[i]), &mut out)));
-        line("involution_unrank", n, ours, theirs);
-
-        let ours = nanoseconds(|i| _ = black_box(osierdrum::involution_rank(black_box(&made[i]))));
-        let theirs = nanoseconds(|i| _ = black_box(involutions.rank(black_box(&made[i]))));
-        line("involution_rank", n, ours, theirs);
+        let names = ["involution_count", "involution_unrank", "involution_rank"];
+        tree_lines(names, n, &mut random, &involutions, involution_count, involution_unrank, involution_rank);
+        let names = ["bell_count", "bell_unrank", "bell_rank"];
+        tree_lines(names, n, &mut random, &bell, bell_count, bell_unrank, bell_rank);
     }
     worst_search();
 }

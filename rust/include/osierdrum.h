@@ -6,10 +6,11 @@
  * on, k is 1 to n.
  *
  * Refusals: 0 none; 1 n is more than 20; 2 k is not 1 to n, or with n = 0 not 0; 3 place >= c(n,k), or in the list of
- * involutions >= their number; 4 m is not 1 to 1000, or more rows than are left; 5 a written slice has not the length
- * asked for, two permutations have unequal lengths, the pairs do not fit, or the wishes are not n long; 6 a value, an
- * entry or a wish out of range; 7 a value twice; 12 fewer levels lent than the permutation has values; 14 no
- * permutation from the place to the end meets the wishes; 15 a cycle longer than two. */
+ * involutions or of Bell permutations >= their number; 4 m is not 1 to 1000, or more rows than are left; 5 a written
+ * slice has not the length asked for, two permutations have unequal lengths, the pairs do not fit, or the wishes are not
+ * n long; 6 a value, an entry or a wish out of range; 7 a value twice; 12 fewer levels lent than the permutation has
+ * values; 14 no permutation from the place to the end meets the wishes; 15 a cycle longer than two; 16 a cycle that does
+ * not fall from its highest number to its lowest. */
 #ifndef OSIERDRUM_H
 #define OSIERDRUM_H
 
@@ -97,6 +98,18 @@ uint8_t osierdrum_involution_unrank(uint64_t n, uint64_t place, uint8_t *out, si
 
 /* The place of an involution in that list. Refusals 1, 6, 7, 15. */
 struct osierdrum_Place osierdrum_involution_rank(const uint8_t *s, size_t s_len);
+
+/* The number of Bell permutations of n, the permutations each of whose cycles falls from its highest number to its
+ * lowest: followed from its highest number, it goes to a lower one at each step until its lowest, which leads back to the
+ * highest. Refusal 1. */
+struct osierdrum_Count osierdrum_bell_count(uint64_t n);
+
+/* The Bell permutation of n at a place, to n bytes. The list is a tree like that of the involutions, where for each j, l
+ * rises over the positions that are least in their cycle. Refusals 1, 3, 5. */
+uint8_t osierdrum_bell_unrank(uint64_t n, uint64_t place, uint8_t *out, size_t out_len);
+
+/* The place of a Bell permutation in that list. Refusals 1, 6, 7, 16. */
+struct osierdrum_Place osierdrum_bell_rank(const uint8_t *s, size_t s_len);
 
 #ifdef __cplusplus
 }

@@ -79,4 +79,7 @@ extern "C" {
     pub fn osierdrum_involution_count(n: u64) -> Count;
     pub fn osierdrum_involution_unrank(n: u64, place: u64, out: *mut u8, out_len: usize) -> u8;
     pub fn osierdrum_involution_rank(s: *const u8, s_len: usize) -> Place;
+    pub fn osierdrum_bell_count(n: u64) -> Count;
+    pub fn osierdrum_bell_unrank(n: u64, place: u64, out: *mut u8, out_len: usize) -> u8;
+    pub fn osierdrum_bell_rank(s: *const u8, s_len: usize) -> Place;
 }

@@ -6,7 +6,8 @@
 //! at place 0; with n from 1 on, k is 1 to n.
 //!
 //! The involutions of n, which have no cycle longer than two, stand in a list of their own, without a k: see
-//! [`involution_unrank`].
+//! [`involution_unrank`]. So do the Bell permutations of n, each of whose cycles falls from its highest number to its
+//! lowest: see [`bell_unrank`].
 //!
 //! The work is done by `libosierdrum.a`, whose every function is proved to meet its contract for all inputs. Nothing
 //! that is handed in can make a call read or write outside its slices or fail to return; what a call cannot serve it
@@ -43,7 +44,7 @@ pub enum Refusal {
     Size = 1,
     /// 2: k is not 1 to n, or with n = 0 not 0.
     Cycles = 2,
-    /// 3: the place is c(n,k) or more, or in the list of involutions their number or more.
+    /// 3: the place is c(n,k) or more, or in the list of involutions or of Bell permutations their number or more.
     Place = 3,
     /// 4: the number of rows is not 1 to 1,000, or more than are left from the place on.
     Rows = 4,
@@ -60,6 +61,8 @@ pub enum Refusal {
     Unmet = 14,
     /// 15: a cycle is longer than two.
     Long = 15,
+    /// 16: a cycle does not fall from its highest number to its lowest.
+    Rising = 16,
 }
 
 impl Refusal {
@@ -77,6 +80,7 @@ impl Refusal {
             12 => Err(Refusal::Levels),
             14 => Err(Refusal::Unmet),
             15 => Err(Refusal::Long),
+            16 => Err(Refusal::Rising),
             _ => unreachable!("no call refuses {number}"),
         }
     }
@@ -95,6 +99,7 @@ impl fmt::Display for Refusal {
             Refusal::Levels => "fewer levels were lent than the permutation has values",
             Refusal::Unmet => "no permutation from the place to the end meets the wishes",
             Refusal::Long => "a cycle is longer than two",
+            Refusal::Rising => "a cycle does not fall from its highest number to its lowest",
         };
         write!(f, "refused {}: {why}", *self as u8)
     }
@@ -503,5 +508,67 @@ pub fn involution_unrank(n: u64, place: u64, out: &mut [u8]) -> Result<(), Refus
 pub fn involution_rank(s: &[u8]) -> Result<u64, Refusal> {
     // SAFETY: the pointer and the length are those of one slice.
     let answer = unsafe { ffi::osierdrum_involution_rank(s.as_ptr(), s.len()) };
+    Refusal::checked(answer.refusal).map(|()| answer.place)
+}
+
+/// How many Bell permutations of n there are: permutations each of whose cycles falls from its highest number to its
+/// lowest, one for each way to part 1 to n into sets. It is the length of the list that [`bell_unrank`] tells of.
+///
+/// Refusals: [`Refusal::Size`].
+///
+/// ```
+/// assert_eq!(osierdrum::bell_count(4), Ok(15));
+/// assert_eq!(osierdrum::bell_count(20), Ok(51_724_158_235_372));
+/// assert_eq!(osierdrum::bell_count(0), Ok(1)); // the one permutation of nothing
+/// ```
+pub fn bell_count(n: u64) -> Result<u64, Refusal> {
+    // SAFETY: the call takes and returns plain numbers.
+    let answer = unsafe { ffi::osierdrum_bell_count(n) };
+    Refusal::checked(answer.refusal).map(|()| answer.count)
+}
+
+/// Writes the Bell permutation of n at a place to `out`, which is n bytes long.
+///
+/// A Bell permutation is one each of whose cycles falls from its highest number to its lowest: followed from its highest
+/// number, it goes to a lower one at each step until its lowest, which leads back to the highest. Every involution is
+/// one.
+///
+/// The list is a tree like that of [`involution_unrank`], where for each j, l rises over the positions that are least in
+/// their cycle.
+///
+/// Refusals, in this order: [`Refusal::Size`], [`Refusal::Place`], [`Refusal::Lent`].
+///
+/// ```
+/// let mut rows = [[0; 4]; 15];
+/// for (place, row) in (0..).zip(&mut rows) {
+///     osierdrum::bell_unrank(4, place, row)?;
+/// }
+/// assert_eq!(rows[0], [1, 2, 3, 4]);
+/// assert_eq!(rows[1..3], [[2, 1, 3, 4], [3, 1, 2, 4]]); // a child of the identity, and its first child
+/// assert_eq!(rows[3], [4, 1, 2, 3]); // the only child of that one: 4, 3, 2, 1 are one cycle
+/// assert_eq!(rows[4..6], [[4, 1, 3, 2], [2, 1, 4, 3]]); // the other children of 2 1 3 4
+/// assert_eq!(rows[6..10], [[3, 2, 1, 4], [4, 2, 1, 3], [3, 4, 1, 2], [1, 3, 2, 4]]);
+/// assert_eq!(rows[10..], [[4, 3, 2, 1], [1, 4, 2, 3], [4, 2, 3, 1], [1, 4, 3, 2], [1, 2, 4, 3]]);
+/// # Ok::<(), osierdrum::Refusal>(())
+/// ```
+pub fn bell_unrank(n: u64, place: u64, out: &mut [u8]) -> Result<(), Refusal> {
+    // SAFETY: the pointer and the length are those of one slice that is ours to write.
+    Refusal::checked(unsafe { ffi::osierdrum_bell_unrank(n, place, out.as_mut_ptr(), out.len()) })
+}
+
+/// The place of a Bell permutation in the list that [`bell_unrank`] tells of; n is the slice's length. An empty slice is
+/// the permutation of nothing, at place 0.
+///
+/// Refusals, in this order: [`Refusal::Size`], [`Refusal::Value`], [`Refusal::Twice`], [`Refusal::Rising`].
+///
+/// ```
+/// use osierdrum::{bell_rank, Refusal};
+/// assert_eq!(bell_rank(&[3, 1, 2, 4]), Ok(2)); // from 3 to 2 to 1
+/// assert_eq!(bell_rank(&[]), Ok(0));
+/// assert_eq!(bell_rank(&[2, 3, 1, 4]), Err(Refusal::Rising)); // from 3 to 1 to 2
+/// ```
+pub fn bell_rank(s: &[u8]) -> Result<u64, Refusal> {
+    // SAFETY: the pointer and the length are those of one slice.
+    let answer = unsafe { ffi::osierdrum_bell_rank(s.as_ptr(), s.len()) };
     Refusal::checked(answer.refusal).map(|()| answer.place)
 }

@@ -1,16 +1,16 @@
 //! Numbers, slices and offsets that nobody should hand in, in every call, with guard bytes around what is lent: the refusal is document 01's, and
 //! no other byte changes. The same for `explain` stands in `explain.rs`, and for `exchanges` in `exchanges.rs`; more for `find` stands in `find.rs`.
-//! More for the involutions stands in `involutions.rs`.
+//! More for the involutions and the Bell permutations stands in `trees.rs`.
 
 mod reference;
 
 use osierdrum::{
-    count, find, from_array, from_inversions, involution_count, involution_rank, involution_unrank, rank, rows,
-    to_array, to_inversions, unrank, Refusal,
+    bell_count, bell_rank, bell_unrank, count, find, from_array, from_inversions, involution_count, involution_rank,
+    involution_unrank, rank, rows, to_array, to_inversions, unrank, Refusal,
 };
 use reference::{
     damaged, short_slices,
-    tree::{paired, Involutions},
+    tree::{paired, parted, Row, Tree},
     Random, Reference,
 };
 use std::fmt::Debug;
@@ -65,9 +65,16 @@ fn ranked(s: &[u8]) -> Result<(u64, u64, u64), u8> {
     rank(s).map(|stands| (stands.k, stands.place, stands.fixed)).map_err(|refusal| refusal as u8)
 }
 
-/// The place of an involution, as the reference has it.
-fn involution_ranked(s: &[u8]) -> Result<u64, u8> {
-    involution_rank(s).map_err(|refusal| refusal as u8)
+/// The calls of a list that is a tree.
+type Count = fn(u64) -> Result<u64, Refusal>;
+type Unrank = fn(u64, u64, &mut [u8]) -> Result<(), Refusal>;
+type Rank = fn(&[u8]) -> Result<u64, Refusal>;
+
+/// A permutation of such a list has the place, or the slice the refusal, that the reference has. Gives the refusal.
+fn ranked_in(reference: &Tree, rank: Rank, s: &[u8]) -> u8 {
+    let given = rank(s).map_err(|refusal| refusal as u8);
+    assert_eq!(given, reference.rank(s), "{s:?}");
+    given.err().unwrap_or(0)
 }
 
 #[test]
@@ -135,17 +142,15 @@ fn numbers_in_find() {
     assert!([0, 1, 2, 3, 5, 6, 14].iter().all(|&refusal| met[refusal] > 0), "{met:?}");
 }
 
-#[test]
-fn numbers_in_involutions() {
-    let reference = Involutions::new();
+fn numbers_in_a_tree(reference: &Tree, count: Count, unrank: Unrank) {
     let mut met = [0u32; 8];
     for n in NUMBERS.into_iter().chain(0..=22) {
         let rows = reference.count(n);
-        assert_eq!(involution_count(n).map_err(|refusal| refusal as u8), rows);
+        assert_eq!(count(n).map_err(|refusal| refusal as u8), rows);
         let end = rows.unwrap_or(1);
         for place in NUMBERS.into_iter().chain([end - 1, end, end + 1, (1 << 32) + end - 1]) {
             for size in (0..=22).chain([64]) {
-                let refusal = same(size, |out| involution_unrank(n, place, out), |out| reference.unrank(n, place, out));
+                let refusal = same(size, |out| unrank(n, place, out), |out| reference.unrank(n, place, out));
                 met[usize::from(refusal)] += 1;
             }
         }
@@ -154,13 +159,22 @@ fn numbers_in_involutions() {
 }
 
 #[test]
-fn slices_in_involution_rank() {
-    let reference = Involutions::new();
+fn numbers_in_involutions() {
+    numbers_in_a_tree(&Tree::involutions(), involution_count, involution_unrank);
+}
+
+#[test]
+fn numbers_in_bell_permutations() {
+    numbers_in_a_tree(&Tree::bell(), bell_count, bell_unrank);
+}
+
+/// Slices near some permutation of the list; `kind` is the refusal of one that is not in it.
+fn slices_in_a_tree(reference: &Tree, rank: Rank, any: fn(&mut Random, usize) -> Row, kind: Refusal) {
     let mut random = Random(97);
-    let mut met = [0u32; 16];
+    let mut met = [0u32; 17];
     for _ in 0..60_000 {
         let n = random.below(22);
-        let mut s = paired(&mut random, n as usize);
+        let mut s = any(&mut random, n as usize);
         // none to three changes
         for _ in 0..random.below(4) * n.min(1) {
             let (one, other) = (random.below(n) as usize, random.below(n) as usize);
@@ -171,11 +185,19 @@ fn slices_in_involution_rank() {
                 _ => s.swap(one, other),
             }
         }
-        let given = involution_ranked(&s);
-        assert_eq!(given, reference.rank(&s), "{s:?}");
-        met[usize::from(given.err().unwrap_or(0))] += 1;
+        met[usize::from(ranked_in(reference, rank, &s))] += 1;
     }
-    assert!([0, 1, 6, 7, 15].iter().all(|&refusal| met[refusal] > 1_000), "{met:?}");
+    assert!([0, 1, 6, 7, kind as usize].iter().all(|&refusal| met[refusal] > 1_000), "{met:?}");
+}
+
+#[test]
+fn slices_in_involution_rank() {
+    slices_in_a_tree(&Tree::involutions(), involution_rank, paired, Refusal::Long);
+}
+
+#[test]
+fn slices_in_bell_rank() {
+    slices_in_a_tree(&Tree::bell(), bell_rank, parted, Refusal::Rising);
 }
 
 #[test]
@@ -219,10 +241,11 @@ fn slices_in_rank_arrays_and_inversions() {
 #[test]
 fn every_short_slice() {
     let reference = Reference::new();
-    let involutions = Involutions::new();
+    let (involutions, bell) = (Tree::involutions(), Tree::bell());
     for s in short_slices() {
         assert_eq!(ranked(&s), reference.rank(&s));
-        assert_eq!(involution_ranked(&s), involutions.rank(&s));
+        ranked_in(&involutions, involution_rank, &s);
+        ranked_in(&bell, bell_rank, &s);
         same(s.len(), |out| to_array(&s, out), |out| reference.to_array(&s, out));
         same(s.len(), |out| from_array(&s, out), |out| reference.from_array(&s, out));
         same(s.len(), |out| to_inversions(&s, out), |out| reference.to_inversions(&s, out));
@@ -243,19 +266,28 @@ fn all_values_before_any_repetition() {
     assert_eq!(to_inversions(&[2, 2, 0], &mut [0; 3]), Err(Refusal::Value));
     assert_eq!(to_inversions(&[2, 2, 0], &mut [0; 4]), Err(Refusal::Lent));
     assert_eq!(to_inversions(&[2, 2, 1], &mut [0; 3]), Err(Refusal::Twice));
-    assert_eq!(involution_rank(&[1, 1, 9]), Err(Refusal::Value));
-    assert_eq!(involution_rank(&[2, 2, 0]), Err(Refusal::Value));
-    assert_eq!(involution_rank(&[2, 2, 1]), Err(Refusal::Twice));
+    for rank in [involution_rank, bell_rank] {
+        assert_eq!(rank(&[1, 1, 9]), Err(Refusal::Value));
+        assert_eq!(rank(&[2, 2, 0]), Err(Refusal::Value));
+        assert_eq!(rank(&[2, 2, 1]), Err(Refusal::Twice));
+    }
 }
 
 #[test]
 fn all_repetitions_before_any_cycle() {
-    // 1, 2 and 3 are a cycle of three
-    assert_eq!(involution_rank(&[2, 3, 1, 0, 4]), Err(Refusal::Value));
-    assert_eq!(involution_rank(&[2, 3, 1, 5, 5]), Err(Refusal::Twice));
-    assert_eq!(involution_rank(&[2, 3, 1, 5, 4]), Err(Refusal::Long));
-    assert_eq!(involution_rank(&[3, 1, 2]), Err(Refusal::Long));
-    // and these are cycles of two
+    let lists: [(Rank, Refusal); 2] = [(involution_rank, Refusal::Long), (bell_rank, Refusal::Rising)];
+    for (rank, kind) in lists {
+        // 1, 2 and 3 are a cycle of three that does not fall
+        assert_eq!(rank(&[2, 3, 1, 0, 4]), Err(Refusal::Value));
+        assert_eq!(rank(&[2, 3, 1, 5, 5]), Err(Refusal::Twice));
+        assert_eq!(rank(&[2, 3, 1, 5, 4]), Err(kind));
+        assert_eq!(rank(&[2, 3, 1]), Err(kind));
+        // and a cycle of two falls
+        assert_eq!(rank(&[2, 1]), Ok(1));
+    }
     assert_eq!(involution_rank(&[2, 1, 3, 5, 4]), Ok(4));
-    assert_eq!(involution_rank(&[2, 1]), Ok(1));
+    assert_eq!(bell_rank(&[2, 1, 3, 5, 4]), Ok(15));
+    // 3, 2 and 1 are a cycle of three that falls
+    assert_eq!(involution_rank(&[3, 1, 2]), Err(Refusal::Long));
+    assert_eq!(bell_rank(&[3, 1, 2]), Ok(2));
 }

@@ -2,9 +2,9 @@
 //! reference; the other tests compare n = 0 with the reference among the rest.
 
 use osierdrum::{
-    count, exchanges, exchanges_into, explain, explain_into, find, from_array, from_inversions, involution_count,
-    involution_rank, involution_unrank, rank, rows, to_array, to_inversions, unrank, Exchanges, Explained, Explanation,
-    Level, Rank, Refusal,
+    bell_count, bell_rank, bell_unrank, count, exchanges, exchanges_into, explain, explain_into, find, from_array,
+    from_inversions, involution_count, involution_rank, involution_unrank, rank, rows, to_array, to_inversions, unrank,
+    Exchanges, Explained, Explanation, Level, Rank, Refusal,
 };
 
 /// A call on a lent slice of `size` bytes, with guards: its result. No byte changes, whether it is served or refused.
@@ -125,29 +125,43 @@ fn search_without_positions() {
     }
 }
 
-#[test]
-fn the_involution_of_nothing() {
-    assert_eq!(involution_count(0), Ok(1));
-    assert_eq!(involution_count(1), Ok(1));
-    assert_eq!(lent(0, |out| involution_unrank(0, 0, out)), Ok(()));
-    assert_eq!(lent(1, |out| involution_unrank(0, 0, out)), Err(Refusal::Lent));
-    assert_eq!(lent(0, |out| involution_unrank(1, 0, out)), Err(Refusal::Lent));
+/// The calls of a list that is a tree: its length, the row at a place, the place of a row.
+fn a_tree_of_nothing(
+    count: fn(u64) -> Result<u64, Refusal>,
+    unrank: fn(u64, u64, &mut [u8]) -> Result<(), Refusal>,
+    rank: fn(&[u8]) -> Result<u64, Refusal>,
+) {
+    assert_eq!(count(0), Ok(1));
+    assert_eq!(count(1), Ok(1));
+    assert_eq!(lent(0, |out| unrank(0, 0, out)), Ok(()));
+    assert_eq!(lent(1, |out| unrank(0, 0, out)), Err(Refusal::Lent));
+    assert_eq!(lent(0, |out| unrank(1, 0, out)), Err(Refusal::Lent));
     for size in [0, 1] {
         for place in [1, 2, 1 << 32, u64::MAX] {
-            assert_eq!(lent(size, |out| involution_unrank(0, place, out)), Err(Refusal::Place));
-            assert_eq!(lent(size, |out| involution_unrank(1, place, out)), Err(Refusal::Place));
-            assert_eq!(lent(size, |out| involution_unrank(21, place, out)), Err(Refusal::Size));
+            assert_eq!(lent(size, |out| unrank(0, place, out)), Err(Refusal::Place));
+            assert_eq!(lent(size, |out| unrank(1, place, out)), Err(Refusal::Place));
+            assert_eq!(lent(size, |out| unrank(21, place, out)), Err(Refusal::Size));
         }
     }
     let mut out = [7];
-    assert_eq!(involution_unrank(1, 0, &mut out), Ok(()));
+    assert_eq!(unrank(1, 0, &mut out), Ok(()));
     assert_eq!(out, [1]);
-    assert_eq!(involution_rank(&[]), Ok(0));
-    assert_eq!(involution_rank(&[1]), Ok(0));
+    assert_eq!(rank(&[]), Ok(0));
+    assert_eq!(rank(&[1]), Ok(0));
     for value in [0, 2, 255] {
-        assert_eq!(involution_rank(&[value]), Err(Refusal::Value));
+        assert_eq!(rank(&[value]), Err(Refusal::Value));
     }
-    assert_eq!(involution_rank(&[0; 21]), Err(Refusal::Size));
+    assert_eq!(rank(&[0; 21]), Err(Refusal::Size));
+}
+
+#[test]
+fn the_involution_of_nothing() {
+    a_tree_of_nothing(involution_count, involution_unrank, involution_rank);
+}
+
+#[test]
+fn the_bell_permutation_of_nothing() {
+    a_tree_of_nothing(bell_count, bell_unrank, bell_rank);
 }
 
 #[test]

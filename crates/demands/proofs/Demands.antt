@@ -1,8 +1,9 @@
--- The request's demands 2 and 3 as theorems, and what document 02, b) to j), adds, to be read from top to bottom beside them. Each is a law of a crate below, stated
+-- The request's demands 2 and 3 as theorems, and what document 02, b) to k), adds, to be read from top to bottom beside them. Each is a law of a crate below, stated
 -- in full here so that nothing has to be looked up but the definitions in specs/. What demand 1 asks is met by the proofs of the functions themselves
 -- (docs/DEMANDS.md says how). Assumes nothing.
 use mathlib.Core.Path.{_≡_, _∙_, sym, ap}
 use mathlib.Core.Logic.{_⊎_}
+use native.Mathlib.Omega.{arith}
 use Prim.Native.Nat.{ℕ, suc, _+_, _-_, _*_, _≤_, _<_, _^_}
 use mathlib.Core.Bool.{Bool, true, false}
 use mathlib.Core.List.{List, _∷_, _++_}
@@ -65,17 +66,26 @@ use Rattle.find.specs.Counting.{meeting}
 use Rattle.find.proofs.Counting.{counted, none-meets}
 use Rattle.find.proofs.Results as Results
 use Rattle.find.proofs.Cases as Searches
-use Rattle.tree.specs.Tree.{Rule, highest, each, subtree, involutions}
-use Rattle.tree.specs.Involution.{longer, IsInvolution}
-use Rattle.tree.specs.Listing.{Holds}
-use Rattle.tree.specs.Calls.{countOf as involutionCount, checkRank, rankOf}
+use Rattle.tree.specs.Tree.{Rule, home, tail, every, highest, each, subtree, permutations}
+use Rattle.tree.specs.Involution.{longer}
+use Rattle.tree.specs.Bell.{IsHighest, FallsFrom}
+use Rattle.tree.specs.Kind.{listed, involutions, bells, IsOf, IsInvolution, IsBell}
+use Rattle.tree.specs.Listing.{Holds, IsRooted}
+use Rattle.tree.specs.Calls.{countOf as listCount, checkRank, rankOf}
+use Rattle.tree.specs.Numbers.{AreBellNumbers}
 use Rattle.tree.specs.Sizes.{size}
+use Rattle.tree.specs.declared.Kind.{Kind}
+use Rattle.tree.specs.declared.Kind.the-variants.{Involution, Bell}
 use Rattle.tree.proofs.Settled.{highest-settled, highest-away}
 use Rattle.tree.proofs.Subtree as Subtrees
-use Rattle.tree.proofs.Involutions as Involutions
-use Rattle.tree.proofs.Places.{size-involutions}
-use Rattle.tree.proofs.Checked.{involution-passed}
-use Rattle.tree.proofs.RoundTrip.{longer-open, longer-closed}
+use Rattle.tree.proofs.Parent.{rooted}
+use Rattle.tree.proofs.Every as Every
+use Rattle.tree.proofs.Involution.{longer-open, longer-closed}
+use Rattle.tree.proofs.Followed as Followed
+use Rattle.tree.proofs.PerKind as PerKind
+use Rattle.tree.proofs.Places.{size-listed}
+use Rattle.tree.proofs.Numbers as Numbers
+use Rattle.tree.proofs.Checked.{rank-passed}
 use Rattle.tree.proofs.RoundTrip as Trips
 use Rattle.tree.proofs.Cases as Trees
 use Rattle.cursor.specs.declared.Cursor.{Cursor}
@@ -449,11 +459,11 @@ count-none = none-meets
 pub find-cases : Searches.Table
 find-cases = Searches.table
 
--- ---- Document 02, j): the permutations with no cycle longer than two, as a tree. `involutions n` is the list of n; `countOf`, `checkUnrank` and `rankOf` of crate `tree` are what
--- the calls answer for every input
+-- ---- Document 02, j) and k): permutations as a tree. `tree rule n` is the tree of n by a rule, which says which l may be used; `involutions n` and `bells n` are the lists of
+-- j) and k), and `listed kind n` either of them; `countOf`, `checkUnrank` and `rankOf` of crate `tree` are what the calls answer for every input
 
--- the sentence that fixes the order, for any rule that says which l may be used: the rows of a subtree are its permutation, then the subtrees of its children, j rising above the
--- highest position whose value is away, for each j, l rising over the positions below j that the rule allows
+-- the sentence that fixes the order, for any rule: the rows of a subtree are its permutation, then the subtrees of its children, j rising above the highest position whose value
+-- is away, for each j, l rising over the positions below j that the rule allows
 pub subtree-sentence : (rule : Rule) (n : ℕ) {s : List ℕ} → IsPermutation n s
     → subtree rule n s ≡ s ∷ each (ltb (highest s)) (λ j. each (rule s) (λ l. subtree rule n (exchange l j s)) (j - 1)) n
 subtree-sentence = Subtrees.sentence
@@ -462,7 +472,25 @@ subtree-sentence = Subtrees.sentence
 pub highest-position : (s : List ℕ) → ((i : ℕ) → highest s < i → i ≤ length s → at s i ≡ i) × ((highest s ≡ 1) ⊎ (at s (highest s) ≡ highest s → ⊥))
 highest-position s = (highest-settled s (length s), highest-away s (length s))
 
--- a cycle longer than two: followed from any of its positions, it closes after three steps or more
+-- k)'s law for any rule: no permutation occurs twice, and exchanging the highest position whose value is away with the position where that value stands gives the parent
+pub any-rule : (rule : Rule) (n : ℕ) → IsRooted rule n
+any-rule = rooted
+
+-- its three uses: for the list of j), for that of k), and for the one with every l < j
+pub involutions-rooted : (n : ℕ) → IsRooted home n
+involutions-rooted = any-rule home
+
+pub bells-rooted : (n : ℕ) → IsRooted tail n
+bells-rooted = any-rule tail
+
+pub permutations-rooted : (n : ℕ) → IsRooted every n
+permutations-rooted = any-rule every
+
+-- which holds every permutation of n exactly once
+pub permutations-complete : (n : ℕ) → Holds (IsPermutation n) (permutations n)
+permutations-complete = Every.complete
+
+-- j): a cycle longer than two: followed from any of its positions, it closes after three steps or more
 pub longer-than-two : (s : List ℕ) (i : ℕ) → longer s i ≡ true → (t : ℕ) → 1 ≤ t → follow s t i ≡ i → 3 ≤ t
 longer-than-two = longer-open
 
@@ -470,29 +498,49 @@ longer-than-two = longer-open
 pub at-most-two : (s : List ℕ) (i : ℕ) → longer s i ≡ false → follow s 2 i ≡ i
 at-most-two = longer-closed
 
--- the list holds every permutation of n with no cycle longer than two exactly once, and nothing else
-pub involutions-complete : (n : ℕ) → Holds (IsInvolution n) (involutions n)
-involutions-complete = Involutions.complete
+-- k): a permutation is of this kind just if each of its cycles, followed from its highest number, falls, each number below the one before, until it closes
+pub bell-falls : {n : ℕ} {s : List ℕ} → IsBell n s → (i : ℕ) → 1 ≤ i → i ≤ n → IsHighest s i → FallsFrom s i
+bell-falls = Followed.falls-followed
 
--- its length, which is the count, is T(0,n): T(f,0) = 1, T(f,m) = T(f+1,m−1) + f×T(f−1,m−1)
-pub involutions-count : (n : ℕ) → n ≤ 20 → involutionCount n ≡ record { refusal = 0; count = size 0 n }
-involutions-count n u = rw (size-passes n u, size-involutions n)
+pub falls-bell : {n : ℕ} {s : List ℕ} → IsPermutation n s → ((i : ℕ) → 1 ≤ i → i ≤ n → IsHighest s i → FallsFrom s i) → IsBell n s
+falls-bell = Followed.followed-falls
+
+-- j): the list holds every permutation of n with no cycle longer than two exactly once, and nothing else
+pub involutions-complete : (n : ℕ) → Holds (IsInvolution n) (involutions n)
+involutions-complete = PerKind.complete Involution
+
+-- k): the list holds every permutation of n whose cycles all fall from their highest number to their lowest exactly once, and nothing else
+pub bells-complete : (n : ℕ) → Holds (IsBell n) (bells n)
+bells-complete = PerKind.complete Bell
+
+-- for both: the length, which is the count, is T(0,n): T(f,0) = 1, and T(f,m) = T(f+1,m−1) + f×T(f−1,m−1) for j), T(f+1,m−1) + f×T(f,m−1) for k)
+pub listed-count : (kind : Kind) (n : ℕ) → n ≤ 20 → listCount kind n ≡ record { refusal = 0; count = size kind 0 n }
+listed-count kind n u = rw (size-passes n u, size-listed kind n)
+
+-- k)'s counts are the Bell numbers, and for 20 it is this one
+pub bell-numbers : AreBellNumbers (λ n. length (bells n))
+bell-numbers = Numbers.bell-numbers
+
+pub bells-of-twenty : listCount Bell 20 ≡ record { refusal = 0; count = 51724158235372 }
+unfolding size
+bells-of-twenty = listed-count Bell 20 (omega arith)
 
 -- place and permutation are inverse: the row at a place has that place
-pub involution-place : (n place : ℕ) → n ≤ 20 → place < length (involutions n) → rankOf (rowAt (involutions n) place) ≡ record { refusal = 0; place = place }
-involution-place = Trips.place-back
+pub listed-place : (kind : Kind) (n place : ℕ) → n ≤ 20 → place < length (listed kind n) → rankOf kind (rowAt (listed kind n) place) ≡ record { refusal = 0; place = place }
+listed-place = Trips.place-back
 
 -- and where nothing is refused, the place found is one of the list, and the row at it is the permutation
-pub involution-row : (s : List ℕ) → checkRank s ≡ 0 → (rankOf s .place < length (involutions (length s))) × (rowAt (involutions (length s)) (rankOf s .place) ≡ s)
-involution-row = Trips.row-back
+pub listed-row : (kind : Kind) (s : List ℕ) → checkRank kind s ≡ 0
+    → (rankOf kind s .place < length (listed kind (length s))) × (rowAt (listed kind (length s)) (rankOf kind s .place) ≡ s)
+listed-row = Trips.row-back
 
--- nothing is refused where the slice is an involution of at most 20 values, and only there
-pub involution-taken : (s : List ℕ) → length s ≤ 20 → IsInvolution (length s) s → checkRank s ≡ 0
-involution-taken s u k = Trips.involution-passes u k
+-- nothing is refused where the slice is a permutation of the kind of at most 20 values, and only there
+pub listed-taken : (kind : Kind) (s : List ℕ) → length s ≤ 20 → IsOf kind (length s) s → checkRank kind s ≡ 0
+listed-taken kind s u k = Trips.rank-passes u k
 
-pub only-involutions : (s : List ℕ) → checkRank s ≡ 0 → (length s ≤ 20) × IsInvolution (length s) s
-only-involutions = involution-passed
+pub only-listed : (kind : Kind) (s : List ℕ) → checkRank kind s ≡ 0 → (length s ≤ 20) × IsOf kind (length s) s
+only-listed = rank-passed
 
--- the list for four that the document writes out, and edges
-pub involution-cases : Trees.Table
-involution-cases = Trees.table
+-- the list for four that the document writes out, the others for few, and edges
+pub tree-cases : Trees.Table
+tree-cases = Trees.table

@@ -2,7 +2,8 @@
 use Prim.Native.Nat.{ℕ}
 use Rattle.stirling.specs.Count.{countOf}
 use Rattle.stirling.specs.declared.Counted.{Counted}
-use Rattle.tree.specs.Calls.{countOf as involutionsOf}
+use Rattle.tree.specs.Calls.{countOf as listCount}
+use Rattle.tree.specs.declared.Kind.{Kind}
 use Rattle.rank.specs.declared.Standing.{Standing}
 use Rattle.osierdrum.specs.declared.Count.{Count}
 use Rattle.osierdrum.specs.declared.Rank.{Rank}
@@ -15,9 +16,9 @@ exported r = record { refusal = r .refusal; count = r .count }
 abbrev pub counted : ℕ → ℕ → Count
 counted n k = exported (countOf n k)
 
--- document 02, j): how many rows the list of involutions has
-abbrev pub involutionsCounted : ℕ → Count
-involutionsCounted n = exported (involutionsOf n)
+-- document 02, j) and k): how many rows the list of a kind has
+abbrev pub listCounted : Kind → ℕ → Count
+listCounted kind n = exported (listCount kind n)
 
 -- an exported place, as the crate `rank` has it
 abbrev pub standing : Rank → Standing

@@ -4,6 +4,7 @@ use explain::Explanation;
 use explain::Level;
 use find::Found;
 use perm::Array;
+use tree::Kind;
 use tree::Place;
 ghost use mathlib.Core.Path.{_≡_};
 ghost use lib.ListN.{length};
@@ -13,8 +14,8 @@ ghost use Rattle.explain.specs.Explain.{Explains};
 ghost use Rattle.exchanges.specs.Between.{Exchanged};
 ghost use Rattle.inversion.specs.Calls.{FromInversions, ToInversions};
 ghost use Rattle.find.specs.Find.{findOf, writtenBy};
-ghost use Rattle.tree.specs.Calls.{checkUnrank as checkInvolution, writtenBy as involutionWritten, rankOf};
-ghost use Rattle.osierdrum.specs.Exports.{counted, involutionsCounted, standing};
+ghost use Rattle.tree.specs.Calls.{checkUnrank as checkListed, writtenBy as writtenListed, rankOf};
+ghost use Rattle.osierdrum.specs.Exports.{counted, listCounted, standing};
 
 // A count, or a refusal with 0.
 #[repr(C)]
@@ -140,31 +141,63 @@ pub extern "C" fn osierdrum_find(n: u64, k: u64, place: u64, wishes: &[u8], out:
     find::find(n, k, place, wishes, out)
 }
 
-// How many involutions of n there are, the permutations with no cycle longer than two. Refusal 1.
-#[no_mangle]
-pub extern "C" fn osierdrum_involution_count(n: u64) -> Count
-    ensures { λ r. ⌜ r ≡ involutionsCounted n ⌝ }
+// How many permutations of n of a kind there are.
+fn count_listed(kind: Kind, n: u64) -> Count
+    ensures { λ r. ⌜ r ≡ listCounted kind n ⌝ }
 {
-    let counted = tree::involution_count(n);
+    let counted = tree::count(kind, n);
     Count {
         refusal: counted.refusal,
         count: counted.count,
     }
 }
 
+// How many involutions of n there are, the permutations with no cycle longer than two. Refusal 1.
+#[no_mangle]
+pub extern "C" fn osierdrum_involution_count(n: u64) -> Count
+    ensures { λ r. ⌜ r ≡ listCounted Kind.Involution n ⌝ }
+{
+    count_listed(Kind::Involution, n)
+}
+
 // The involution at a place of the list of n. Refusals 1, 3, 5.
 #[no_mangle]
 pub extern "C" fn osierdrum_involution_unrank(n: u64, place: u64, out: &mut [u8]) -> u8
-    ensures refusal { λ r. ⌜ r ≡ checkInvolution n place (length (now (out .entry))) ⌝ }
-    ensures row { λ r. ⌜ now (out .exit) ≡ involutionWritten n place r (now (out .entry)) ⌝ }
+    ensures refusal { λ r. ⌜ r ≡ checkListed Kind.Involution n place (length (now (out .entry))) ⌝ }
+    ensures row { λ r. ⌜ now (out .exit) ≡ writtenListed Kind.Involution n place r (now (out .entry)) ⌝ }
 {
-    tree::involution_unrank(n, place, out)
+    tree::unrank(Kind::Involution, n, place, out)
 }
 
 // The place of an involution. Refusals 1, 6, 7, 15.
 #[no_mangle]
 pub extern "C" fn osierdrum_involution_rank(s: &[u8]) -> Place
-    ensures { λ r. ⌜ r ≡ rankOf (now (s .entry)) ⌝ }
+    ensures { λ r. ⌜ r ≡ rankOf Kind.Involution (now (s .entry)) ⌝ }
 {
-    tree::involution_rank(s)
+    tree::rank(Kind::Involution, s)
+}
+
+// How many Bell permutations of n there are, the permutations each of whose cycles falls from its highest number to its lowest. Refusal 1.
+#[no_mangle]
+pub extern "C" fn osierdrum_bell_count(n: u64) -> Count
+    ensures { λ r. ⌜ r ≡ listCounted Kind.Bell n ⌝ }
+{
+    count_listed(Kind::Bell, n)
+}
+
+// The Bell permutation at a place of the list of n. Refusals 1, 3, 5.
+#[no_mangle]
+pub extern "C" fn osierdrum_bell_unrank(n: u64, place: u64, out: &mut [u8]) -> u8
+    ensures refusal { λ r. ⌜ r ≡ checkListed Kind.Bell n place (length (now (out .entry))) ⌝ }
+    ensures row { λ r. ⌜ now (out .exit) ≡ writtenListed Kind.Bell n place r (now (out .entry)) ⌝ }
+{
+    tree::unrank(Kind::Bell, n, place, out)
+}
+
+// The place of a Bell permutation. Refusals 1, 6, 7, 16.
+#[no_mangle]
+pub extern "C" fn osierdrum_bell_rank(s: &[u8]) -> Place
+    ensures { λ r. ⌜ r ≡ rankOf Kind.Bell (now (s .entry)) ⌝ }
+{
+    tree::rank(Kind::Bell, s)
 }

@@ -2,7 +2,7 @@
 use mathlib.Core.Path.{_≡_, refl, sym, ap, _∙_}
 use Prim.Native.Nat.{ℕ, zero, suc, _-_, _≤_, _<_}
 use native.Mathlib.Omega.{arith}
-use mathlib.Core.Bool.{not}
+use mathlib.Core.Bool.{Bool, false, not}
 use mathlib.Core.Logic.{_≢_}
 use mathlib.Core.List.{List, [], _∷_, _++_}
 use lib.Dec.{eqb, leb}
@@ -25,17 +25,19 @@ use Rattle.perm.proofs.Arrays.{product-partial}
 use Rattle.perm.proofs.Checked.{checked, passes-values, passes-twice, passes-array}
 use Rattle.perm.proofs.Refused.{lent-passes}
 use Rattle.perm.proofs.Same.{same-equal, same-false}
-use Rattle.tree.specs.Tree.{home, involutions}
-use Rattle.tree.specs.Involution.{longer, IsInvolution}
+use Rattle.tree.specs.Tree.{Rule, tree}
+use Rattle.tree.specs.Kind.{ruleOf, listed, breaks, refusalOf, IsOf}
 use Rattle.tree.specs.Listing.{rowAt, placeIn}
-use Rattle.tree.specs.Calls.{checkPlace, checkUnrank, checkLong, checkRank}
+use Rattle.tree.specs.Calls.{checkPlace, checkUnrank, checkKind, checkRank}
 use Rattle.tree.specs.Sizes.{size}
 use Rattle.tree.specs.Search.{rows, Stands, Leads}
+use Rattle.tree.specs.declared.Kind.{Kind}
+use Rattle.tree.specs.declared.Kind.the-variants.{Involution, Bell}
 use Rattle.tree.proofs.Settled.{identity-settled}
 use Rattle.tree.proofs.Subtree.{tree-rows}
 use Rattle.tree.proofs.Once.{only, partial-allowed}
-use Rattle.tree.proofs.Involutions.{involutions-fit}
-use Rattle.tree.proofs.Places.{size-involutions}
+use Rattle.tree.proofs.PerKind.{fits}
+use Rattle.tree.proofs.Places.{size-listed}
 
 -- where checks 1, 6 and 7 pass, the slice is short and a permutation
 pub permutation-passed : (s : List ℕ) → checkPermutation s ≡ 0 → (length s ≤ 20) × IsPermutation (length s) s
@@ -44,21 +46,26 @@ permutation-passed s e =
     let (fits, values) = then-passed (checkSize (length s)) (checkValues s) most in
     (size-passed (length s) fits, checked s values twice)
 
--- where check 15 passes too, it is an involution
-pub involution-passed : (s : List ℕ) → checkRank s ≡ 0 → (length s ≤ 20) × IsInvolution (length s) s
-involution-passed s e =
-    let (most, long) = then-passed (checkPermutation s) (checkLong s) e in
-    let (fits, p) = permutation-passed s most in
-    let none = ltb-false 0 (tally (longer s) (positions (length s))) (refuse-passed (some (longer s) (positions (length s))) 14 long) in
-    (fits, record { permutation = p; short = λ i a b. range-none-passes (longer s) 1 (length s) (omega arith) i a (omega arith) })
+-- a test that is not refused does not apply
+kind-passed : (kind : Kind) (b : Bool) → refuse b (refusalOf kind) ≡ 0 → b ≡ false
+kind-passed Involution b e = refuse-passed b 14 e
+kind-passed Bell b e = refuse-passed b 15 e
+
+-- where check 15 or 16 passes too, it is of the kind
+pub rank-passed : (kind : Kind) (s : List ℕ) → checkRank kind s ≡ 0 → (length s ≤ 20) × IsOf kind (length s) s
+rank-passed kind s e =
+    let (most, kept) = then-passed (checkPermutation s) (checkKind kind s) e in
+    let (small, p) = permutation-passed s most in
+    let none = ltb-false 0 (tally (breaks kind s) (positions (length s))) (kind-passed kind (some (breaks kind s) (positions (length s))) kept) in
+    (small, record { permutation = p; fits = λ i a b. range-none-passes (breaks kind s) 1 (length s) (omega arith) i a (omega arith) })
 
 -- where checks 1, 3 and 5 pass, n is at most 20, the place one of the list, and the slice n long
-pub unrank-passed : (n place lent : ℕ) → checkUnrank n place lent ≡ 0 → (n ≤ 20) × (place < size 0 n) × (lent ≡ n)
-unrank-passed n place lent e =
-    let (most, room) = then-passed (checkPlace n place) (checkLent n lent) e in
-    let (fits, inside) = then-passed (checkSize n) (refuse (leb (length (involutions n)) place) 3) most in (
-      size-passed n fits,
-      omega (arith, size-involutions n, leb-false (length (involutions n)) place (refuse-passed (leb (length (involutions n)) place) 2 inside)),
+pub unrank-passed : (kind : Kind) (n place lent : ℕ) → checkUnrank kind n place lent ≡ 0 → (n ≤ 20) × (place < size kind 0 n) × (lent ≡ n)
+unrank-passed kind n place lent e =
+    let (most, room) = then-passed (checkPlace kind n place) (checkLent n lent) e in
+    let (small, inside) = then-passed (checkSize n) (refuse (leb (length (listed kind n)) place) 3) most in (
+      size-passed n small,
+      omega (arith, size-listed kind n, leb-false (length (listed kind n)) place (refuse-passed (leb (length (listed kind n)) place) 2 inside)),
       eqb-true lent n (not-false _ (refuse-passed (not (eqb lent n)) 4 room)),
     )
 
@@ -115,26 +122,27 @@ module _ (s z : List ℕ) {after : List ℕ} {r : Array} (e : length z ≡ 20) (
   pub array-room : length s ≤ length (after ++ drop (length s) z)
   array-room = omega (arith, length-append after (drop (length s) z), w .written made-passed .array .size)
 
--- where the searches begin
-pub identity-stands : (n : ℕ) {s : List ℕ} → n ≤ 20 → s ≡ positions n → Stands n 0 s
-unfolding tally range
-identity-stands n {s} u e =
-    let z = length-range 1 n in
-    let y : length (positions n) - n ≡ 0 = omega arith in
-    rw e (record { small = omega arith; room = omega arith; settled = rw (y, z) (identity-settled n); usable = rw y })
+module _ (kind : Kind) where
+  -- where the searches begin
+  pub identity-stands : (n : ℕ) {s : List ℕ} → n ≤ 20 → s ≡ positions n → Stands kind n 0 s
+  unfolding tally range
+  identity-stands n {s} u e =
+      let z = length-range 1 n in
+      let y : length (positions n) - n ≡ 0 = omega arith in
+      rw e (record { small = omega arith; room = omega arith; settled = rw (y, z) (identity-settled n); of-kind = rw z (fits kind n .identity); usable = rw y })
 
--- the rows from there on are the list
-pub identity-rows : (n : ℕ) {s : List ℕ} → s ≡ positions n → rows home (length s - n) n s ≡ involutions n
-identity-rows n {s} e =
-    let y : length (positions n) - n ≡ 0 = omega (arith, length-range 1 n) in
-    rw (e, y) (sym (tree-rows home n))
+  -- the rows from there on are the list
+  pub identity-rows : (n : ℕ) {s : List ℕ} → s ≡ positions n → rows (ruleOf kind) (length s - n) n s ≡ listed kind n
+  identity-rows n {s} e =
+      let y : length (positions n) - n ≡ 0 = omega (arith, length-range 1 n) in
+      rw (e, y) (sym (tree-rows (ruleOf kind) n))
 
--- the array of an involution leads to it
-involution-leads : {n : ℕ} {s a : List ℕ} → IsInvolution n s → IsArray n a → product a ≡ s → Leads a 0 (positions n)
-unfolding partial
-involution-leads {n} {s} {a} k w e =
-    let last : IsInvolution n (partial n a n) = rw (← (product-partial a (w .size)), e) k in
-    record { array = rw (w .size) w; here = rw (w .size); allowed = rw (w .size) (λ i b u. partial-allowed (involutions-fit n) a w last i u) }
+  -- the array of a permutation of the kind leads to it
+  array-leads : {n : ℕ} {s a : List ℕ} → IsOf kind n s → IsArray n a → product a ≡ s → Leads kind a 0 (positions n)
+  unfolding partial
+  array-leads {n} {s} {a} k w e =
+      let last : IsOf kind n (partial n a n) = rw (← (product-partial a (w .size)), e) k in
+      record { array = rw (w .size) w; here = rw (w .size); allowed = rw (w .size) (λ i b u. partial-allowed (fits kind n) a w last i u) }
 
 -- a place that has s, where no place before it has, is its place
 placed-first : (s : List ℕ) (rows : List (List ℕ)) (r : ℕ) → r < length rows → rowAt rows r ≡ s → ((q : ℕ) → q < r → rowAt rows q ≢ s) → placeIn s rows ≡ r
@@ -144,25 +152,26 @@ placed-first s (t ∷ rows) zero u e d = rw (same-equal s t (sym e))
 placed-first s (t ∷ rows) (suc r) u e d =
     rw (same-false s t (λ f. d 0 (omega arith) (sym f))) (ap suc (placed-first s rows r (omega arith) e (λ q v. d (suc q) (omega arith))))
 
--- so in the list, where no row stands twice
-pub placed : (n r : ℕ) (s : List ℕ) → r < length (involutions n) → rowAt (involutions n) r ≡ s → placeIn s (involutions n) ≡ r
-placed n r s u e = placed-first s (involutions n) r u e (λ q v f. omega (arith, only home n q r (omega arith) u (f ∙ sym e)))
+-- so in a tree, where no row stands twice
+pub placed : (rule : Rule) (n r : ℕ) (s : List ℕ) → r < length (tree rule n) → rowAt (tree rule n) r ≡ s → placeIn s (tree rule n) ≡ r
+placed rule n r s u e = placed-first s (tree rule n) r u e (λ q v f. omega (arith, only rule n q r (omega arith) u (f ∙ sym e)))
 
--- the search for the place of an involution with array a, from the first values of the code's identity on
-module _ (s a : List ℕ) (u : length s ≤ 20) (k : IsInvolution (length s) s) (w : IsArrayOf s a) where
+-- the search for the place of a permutation of the kind with array a, from the first values of the code's identity on
+module _ (kind : Kind) (s a : List ℕ) (u : length s ≤ 20) (k : IsOf kind (length s) s) (w : IsArrayOf s a) where
   abbrev start : List ℕ
   start = take (length s) twenty
 
   begins : start ≡ positions (length s)
   begins = first-values (length s) u
 
-  pub search-begins : Stands (length s) 0 start × (length a ≡ length start) × Leads a (length start - length s) start
+  pub search-begins : Stands kind (length s) 0 start × (length a ≡ length start) × Leads kind a (length start - length s) start
   search-begins =
       let z = length-range 1 (length s) in
       let y : length (positions (length s)) - length s ≡ 0 = omega arith in
-      (identity-stands (length s) u begins, rw begins (w .array .size ∙ sym z), rw (begins, y) (involution-leads k (w .array) (w .equal)))
+      (identity-stands kind (length s) u begins, rw begins (w .array .size ∙ sym z), rw (begins, y) (array-leads kind k (w .array) (w .equal)))
 
-  pub search-ends : (r : ℕ) → r < size 0 (length s) → rowAt (rows home (length start - length s) (length s) start) r ≡ product a → r ≡ placeIn s (involutions (length s))
+  pub search-ends : (r : ℕ) → r < size kind 0 (length s) → rowAt (rows (ruleOf kind) (length start - length s) (length s) start) r ≡ product a
+      → r ≡ placeIn s (listed kind (length s))
   search-ends r v e =
-      let row : rowAt (involutions (length s)) r ≡ s = ap (λ l. rowAt l r) (sym (identity-rows (length s) begins)) ∙ e ∙ w .equal in
-      sym (placed (length s) r s (omega (arith, size-involutions (length s))) row)
+      let row : rowAt (listed kind (length s)) r ≡ s = ap (λ l. rowAt l r) (sym (identity-rows kind (length s) begins)) ∙ e ∙ w .equal in
+      sym (placed (ruleOf kind) (length s) r s (omega (arith, size-listed kind (length s))) row)

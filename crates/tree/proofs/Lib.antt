@@ -2,10 +2,17 @@ pub mod Each
 pub mod Settled
 pub mod Subtree
 pub mod Once
+pub mod Parent
+pub mod Every
+pub mod Least
 pub mod Involution
 pub mod Involutions
+pub mod Falling
+pub mod Followed
+pub mod PerKind
 pub mod Sizes
 pub mod Places
+pub mod Numbers
 pub mod Descent
 pub mod Steps
 pub mod Checked

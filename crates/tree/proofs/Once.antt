@@ -59,7 +59,7 @@ lowered t h zero = t
 lowered t h (suc m) = exchange (position (suc h) (lowered t (suc h) m)) (suc h) (lowered t (suc h) m)
 
 -- the one row of a list of one
-alone : (t s : List ℕ) → 1 ≤ tally (same t) (s ∷ []) → t ≡ s
+pub alone : (t s : List ℕ) → 1 ≤ tally (same t) (s ∷ []) → t ≡ s
 unfolding tally
 alone t s g = cases (same t s) (same-true t s) (λ u. absurd (omega (arith, ap one u)))
 
@@ -124,7 +124,7 @@ partial-settled {n} {a} w (suc h) u =
 
 module _ {rule : Rule} {n : ℕ} {Kind : List ℕ → Type 0} (fit : Fits rule n Kind) where
   -- an exchange of one of 1 to h + 1 with h + 1 that is taken keeps the kind
-  kept-next : (h l : ℕ) (s : List ℕ) → Kind s → Settled n h s → h < n → 1 ≤ l → l ≤ suc h → (l ≤ h → rule s l ≡ true) → Kind (exchange l (suc h) s)
+  pub kept-next : (h l : ℕ) (s : List ℕ) → Kind s → Settled n h s → h < n → 1 ≤ l → l ≤ suc h → (l ≤ h → rule s l ≡ true) → Kind (exchange l (suc h) s)
   kept-next h l s k w u a b t = by-top (ℕ-discrete l (suc h))
     where
       by-top : Dec (l ≡ suc h) → Kind (exchange l (suc h) s)

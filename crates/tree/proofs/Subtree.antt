@@ -27,7 +27,7 @@ abbrev Agrees : Rule → ℕ → Type 0
 Agrees rule m = (d n h : ℕ) (s : List ℕ) → IsPermutation n s → Settled n h s → h + m ≡ n → m ≤ suc d → childrenAbove rule d h s ≡ hanging rule h m s
 
 -- a child's highest position away is the one that was exchanged
-child-highest : {n h : ℕ} {s : List ℕ} (m : ℕ) → IsPermutation n s → Settled n h s → suc h + m ≡ n → (l : ℕ) → 1 ≤ l → l ≤ h → highest (exchange l (suc h) s) ≡ suc h
+pub child-highest : {n h : ℕ} {s : List ℕ} (m : ℕ) → IsPermutation n s → Settled n h s → suc h + m ≡ n → (l : ℕ) → 1 ≤ l → l ≤ h → highest (exchange l (suc h) s) ≡ suc h
 child-highest {n} {h} {s} m p w e l a b =
     let x = exchange l (suc h) s in
     let v = child-settled w (omega arith) l a (omega arith) in

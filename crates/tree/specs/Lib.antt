@@ -1,6 +1,9 @@
 pub mod Tree
 pub mod Involution
+pub mod Bell
+pub mod Kind
 pub mod Listing
+pub mod Numbers
 pub mod Calls
 pub mod Sizes
 pub mod Search

@@ -41,17 +41,6 @@ static int empty_list(void) {
         if (found.refusal != 5 || found.place != 0) return 50;
     }
 
-    count = osierdrum_involution_count(0);
-    if (count.refusal != 0 || count.count != 1) return 13;
-    for (size_t len = 0; len <= 1; len++) {
-        if (osierdrum_involution_unrank(0, 0, lent + 1, len) != (len == 0 ? 0 : 5)) return 14;
-        if (osierdrum_involution_unrank(0, 1, lent + 1, len) != 3) return 15;
-    }
-    struct osierdrum_Place place = osierdrum_involution_rank(&byte, 0);
-    if (place.refusal != 0 || place.place != 0) return 16;
-    place = osierdrum_involution_rank(&byte, 1);
-    if (place.refusal != 6 || place.place != 0) return 17;
-
     for (size_t len = 0; len <= 1; len++) {
         uint8_t longer = len == 0 ? 0 : 5;
         if (osierdrum_unrank(0, 0, 0, lent + 1, len) != longer) return 25;
@@ -212,38 +201,85 @@ static int search(void) {
     return memcmp(row, (const uint8_t[]){99, 3, 5, 4, 1, 2, 99}, 7) == 0 ? 0 : 113;
 }
 
-static int involutions(void) {
-    struct osierdrum_Count count = osierdrum_involution_count(20);
-    if (count.refusal != 0 || count.count != 23758664096) return 121;
-    count = osierdrum_involution_count(21);
-    if (count.refusal != 1 || count.count != 0) return 122;
+/* A list that is a tree: its calls, its lengths for 20 and 4, its rows for 4, and the refusal of a permutation that is
+ * not in it. */
+struct tree {
+    struct osierdrum_Count (*count)(uint64_t n);
+    uint8_t (*unrank)(uint64_t n, uint64_t place, uint8_t *out, size_t out_len);
+    struct osierdrum_Place (*rank)(const uint8_t *s, size_t s_len);
+    uint64_t of_20, of_4;
+    const uint8_t (*rows)[4];
+    uint8_t refusal;
+};
+
+static const uint8_t involutions[10][4] = {{1, 2, 3, 4}, {2, 1, 3, 4}, {2, 1, 4, 3}, {3, 2, 1, 4}, {3, 4, 1, 2},
+                                           {1, 3, 2, 4}, {4, 3, 2, 1}, {4, 2, 3, 1}, {1, 4, 3, 2}, {1, 2, 4, 3}};
+
+static const uint8_t bell[15][4] = {{1, 2, 3, 4}, {2, 1, 3, 4}, {3, 1, 2, 4}, {4, 1, 2, 3}, {4, 1, 3, 2},
+                                    {2, 1, 4, 3}, {3, 2, 1, 4}, {4, 2, 1, 3}, {3, 4, 1, 2}, {1, 3, 2, 4},
+                                    {4, 3, 2, 1}, {1, 4, 2, 3}, {4, 2, 3, 1}, {1, 4, 3, 2}, {1, 2, 4, 3}};
+
+static const struct tree trees[2] = {
+    {osierdrum_involution_count, osierdrum_involution_unrank, osierdrum_involution_rank,
+     23758664096, 10, involutions, 15},
+    {osierdrum_bell_count, osierdrum_bell_unrank, osierdrum_bell_rank,
+     51724158235372, 15, bell, 16},
+};
+
+static int rows_of_a_tree(const struct tree *list) {
+    struct osierdrum_Count count = list->count(20);
+    if (count.refusal != 0 || count.count != list->of_20) return 1;
+    count = list->count(21);
+    if (count.refusal != 1 || count.count != 0) return 2;
 
     uint8_t row[6] = {99, 99, 99, 99, 99, 99};
-    if (osierdrum_involution_unrank(21, 10, row + 1, 5) != 1) return 123;
-    if (osierdrum_involution_unrank(4, 10, row + 1, 5) != 3) return 124;
-    if (osierdrum_involution_unrank(4, 9, row + 1, 5) != 5) return 125;
-    if (osierdrum_involution_unrank(4, 9, row + 1, 3) != 5) return 126;
-    if (memcmp(row, (const uint8_t[]){99, 99, 99, 99, 99, 99}, 6) != 0) return 127;
+    if (list->unrank(21, list->of_4, row + 1, 5) != 1) return 3;
+    if (list->unrank(4, list->of_4, row + 1, 5) != 3) return 4;
+    if (list->unrank(4, list->of_4 - 1, row + 1, 5) != 5) return 5;
+    if (list->unrank(4, list->of_4 - 1, row + 1, 3) != 5) return 6;
+    if (memcmp(row, (const uint8_t[]){99, 99, 99, 99, 99, 99}, 6) != 0) return 7;
 
-    const uint8_t rows[10][4] = {{1, 2, 3, 4}, {2, 1, 3, 4}, {2, 1, 4, 3}, {3, 2, 1, 4}, {3, 4, 1, 2},
-                                 {1, 3, 2, 4}, {4, 3, 2, 1}, {4, 2, 3, 1}, {1, 4, 3, 2}, {1, 2, 4, 3}};
     struct osierdrum_Place found;
-    for (uint64_t place = 0; place < 10; place++) {
-        if (osierdrum_involution_unrank(4, place, row + 1, 4) != 0) return 128;
-        if (row[0] != 99 || memcmp(row + 1, rows[place], 4) != 0 || row[5] != 99) return 129;
-        found = osierdrum_involution_rank(rows[place], 4);
-        if (found.refusal != 0 || found.place != place) return 130;
+    for (uint64_t place = 0; place < list->of_4; place++) {
+        if (list->unrank(4, place, row + 1, 4) != 0) return 8;
+        if (row[0] != 99 || memcmp(row + 1, list->rows[place], 4) != 0 || row[5] != 99) return 9;
+        found = list->rank(list->rows[place], 4);
+        if (found.refusal != 0 || found.place != place) return 10;
     }
 
-    /* a cycle of three in each, and in all but the last what is refused earlier */
+    /* a cycle of three that does not fall in each, and in all but the last what is refused earlier */
     const uint8_t wide[21] = {2, 3, 1}, outside[6] = {2, 3, 1, 4, 4, 7}, twice[6] = {2, 3, 1, 4, 6, 6};
     const uint8_t cycle[6] = {2, 3, 1, 4, 6, 5};
     const uint8_t *refused[4] = {wide, outside, twice, cycle};
     const size_t sizes[4] = {sizeof wide, sizeof outside, sizeof twice, sizeof cycle};
-    const uint8_t numbers[4] = {1, 6, 7, 15};
+    const uint8_t numbers[4] = {1, 6, 7, list->refusal};
     for (size_t i = 0; i < 4; i++) {
-        found = osierdrum_involution_rank(refused[i], sizes[i]);
-        if (found.refusal != numbers[i] || found.place != 0) return 131;
+        found = list->rank(refused[i], sizes[i]);
+        if (found.refusal != numbers[i] || found.place != 0) return 11;
+    }
+    return 0;
+}
+
+static int empty_tree(const struct tree *list) {
+    uint8_t byte = 7, lent[3] = {7, 7, 7};
+    struct osierdrum_Count count = list->count(0);
+    if (count.refusal != 0 || count.count != 1) return 12;
+    for (size_t len = 0; len <= 1; len++) {
+        if (list->unrank(0, 0, lent + 1, len) != (len == 0 ? 0 : 5)) return 13;
+        if (list->unrank(0, 1, lent + 1, len) != 3) return 14;
+    }
+    if (memcmp(lent, (const uint8_t[]){7, 7, 7}, 3) != 0) return 15;
+    struct osierdrum_Place place = list->rank(&byte, 0);
+    if (place.refusal != 0 || place.place != 0) return 16;
+    place = list->rank(&byte, 1);
+    return place.refusal == 6 && place.place == 0 ? 0 : 17;
+}
+
+/* From 121 on for the involutions, from 141 on for the Bell permutations. */
+static int each_tree(int (*check)(const struct tree *list)) {
+    for (int i = 0; i < 2; i++) {
+        int wrong = check(&trees[i]);
+        if (wrong != 0) return 120 + 20 * i + wrong;
     }
     return 0;
 }
@@ -276,6 +312,7 @@ int main(void) {
     if (wrong == 0) wrong = fixed_points();
     if (wrong == 0) wrong = inversions();
     if (wrong == 0) wrong = search();
-    if (wrong == 0) wrong = involutions();
+    if (wrong == 0) wrong = each_tree(rows_of_a_tree);
+    if (wrong == 0) wrong = each_tree(empty_tree);
     return wrong != 0 ? wrong : empty_list();
 }

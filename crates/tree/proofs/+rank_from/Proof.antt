@@ -16,7 +16,7 @@ use Rattle.tree.proofs.+rank_from.{statement}
 use Rattle.tree.proofs.+rank_from.Tie.{close}
 
 abbrev μ-rank-from : Measures 3 rank-from-kinds.ps ℕ
-μ-rank-from κs a = a .1 .1 .0
+μ-rank-from κs a = a .1 .1 .1 .0
 
 abbrev rank-from-at : ℕ → In 3 rank-from-kinds.ps
 rank-from-at t = and 3 rank-from-kinds.ps (is 3 rank-from-kinds.ps μ-rank-from t) rank-from.Pre
@@ -33,7 +33,7 @@ module _ (t : ℕ) where
   rank-from-returns c =
       let e = c .before .before .before .before in
       let (w, z, v) = e .pre .1 .1 in
-      (size-some (e .args .usable) (e .args .remaining), leads-end (omega (arith, c .if1 .taken)) v)
+      (size-some (e .args .kind) (e .args .usable) (e .args .remaining), leads-end (e .args .kind) (omega (arith, c .if1 .taken)) v)
 
   rank-from-step-along-requires : rank-from-lts.Need-step-along-requires (calls t) (rank-from-at t) rank-from.Post
   rank-from-step-along-requires c κs =
@@ -57,7 +57,7 @@ module _ (t : ℕ) where
       let stepped = c .before .before .before .before .before .before in
       let e = stepped .before .before .before .before .before .before in
       let inside = stepped .step-along .ensures .inside (c .before .before .rank-from .result) (c .before .before .rank-from .ensures .0) in
-      lt-trans inside (e .pre .1 .0 .fits (e .args .usable) (e .args .remaining) (few (e .pre .1 .1 .0)))
+      lt-trans inside (e .pre .1 .0 .fits (e .args .usable) (e .args .remaining) (few (e .args .kind) (e .pre .1 .1 .0)))
 
   rank-from-same-length : rank-from-lts.Need-same-length (calls t) (rank-from-at t) rank-from.Post
   rank-from-same-length c = search needs

@@ -14,7 +14,7 @@ use Rattle.tree.proofs.+unrank_from.{statement}
 use Rattle.tree.proofs.+unrank_from.Tie.{close}
 
 abbrev μ-unrank-from : Measures 2 unrank-from-kinds.ps ℕ
-μ-unrank-from κs a = a .1 .0
+μ-unrank-from κs a = a .1 .1 .0
 
 abbrev unrank-from-at : ℕ → In 2 unrank-from-kinds.ps
 unrank-from-at t = and 2 unrank-from-kinds.ps (is 2 unrank-from-kinds.ps μ-unrank-from t) unrank-from.Pre
@@ -35,7 +35,7 @@ module _ (t : ℕ) where
   behind c = omega arith
 
   remains : (c : unrank-from-lts.Else1 (calls t) (unrank-from-at t) unrank-from.Post) → 1 ≤ c .before .before .before .args .remaining
-  remains c = let e = c .before .before .before in some-remain (e .args .usable) (e .args .remaining) (e .args .place) (behind c) (e .pre .1 .1 .1)
+  remains c = let e = c .before .before .before in some-remain (e .args .kind) (e .args .usable) (e .args .remaining) (e .args .place) (behind c) (e .pre .1 .1 .1)
 
   unrank-from-step-down-requires : unrank-from-lts.Need-step-down-requires (calls t) (unrank-from-at t) unrank-from.Post
   unrank-from-step-down-requires c κs =

@@ -1,4 +1,4 @@
--- `tree::check_rank` meets its contract: check 15 is made where the checks before it pass, and so of a permutation. Assumes nothing.
+-- `tree::check_rank` meets its contract: check 15 or 16 is made where the checks before it pass, and so of a permutation. Assumes nothing.
 use mathlib.Core.Path.{sym, _∙_}
 use borrow.Author.Needs.{needs}
 use Rattle.stirling.proofs.Refusals.{then-stops}
@@ -13,12 +13,12 @@ check-permutation-requires c κs = search needs
 returns : tie.Need-returns
 returns c = then-stops _ _ _ (c .before .check-permutation .ensures) (c .if1 .taken)
 
-check-long-requires : tie.Need-check-long-requires
-check-long-requires c κs = permutation-passed _ (sym (c .before .check-permutation .ensures) ∙ c .if1 .left)
+check-kind-requires : tie.Need-check-kind-requires
+check-kind-requires c κs = permutation-passed _ (sym (c .before .check-permutation .ensures) ∙ c .if1 .left)
 
 returns-2 : tie.Need-returns-2
-returns-2 c = next _ _ (sym (c .before .before .check-permutation .ensures) ∙ c .before .if1 .left) (c .check-long .ensures)
+returns-2 c = next _ _ (sym (c .before .before .check-permutation .ensures) ∙ c .before .if1 .left) (c .check-kind .ensures)
 
 pub check-rank-spec : {M : Type 1} → statement M
 check-rank-spec =
-    tie.close (tie.spec check-permutation-requires returns check-long-requires returns-2)
+    tie.close (tie.spec check-permutation-requires returns check-kind-requires returns-2)

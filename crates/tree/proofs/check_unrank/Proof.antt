@@ -30,7 +30,7 @@ returns-2 c =
     then-stops _ _ _ (next _ _ (size (c .before .before)) (sym (refuse-applies _ 3 place))) (λ e. omega arith)
 
 -- and check 3
-place : (c : tie.Else2) → checkPlace (c .before .before .before .before .before .args .n) (c .before .before .before .before .before .args .place) ≡ 0
+place : (c : tie.Else2) → let a = c .before .before .before .before .before .args in checkPlace (a .kind) (a .n) (a .place) ≡ 0
 place c = sym (next _ _ (size (c .before .before)) (sym (refuse-passes _ 3 (lt-leb _ _ (rw (c .before .count-of .ensures) at (c .if2 .left))))))
 
 returns-3 : tie.Need-returns-3

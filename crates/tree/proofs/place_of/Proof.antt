@@ -1,4 +1,4 @@
--- `tree::place_of` meets its contract: the array of an involution is made, and the search along it, which begins with the identity, ends with its place. Assumes nothing.
+-- `tree::place_of` meets its contract: the permutation's array is made, and the search along it, which begins with the identity, ends with its place. Assumes nothing.
 use mathlib.Core.Path.{refl, sym}
 use Prim.Native.Nat.{ℕ}
 use mathlib.Core.List.{List, _++_}
@@ -55,14 +55,14 @@ rank-from-requires : tie.Need-rank-from-requires
 rank-from-requires c κs =
     let b = c .before .before .before .before .before in
     let s = b .before .before .before in
-    (c .before .before .before .table .ensures, search-begins (given b) _ (s .pre .0) (s .pre .1) (made b))
+    (c .before .before .before .table .ensures, search-begins _ (given b) _ (s .pre .0) (s .pre .1) (made b))
 
 returns : tie.Need-returns
 returns c =
     let b = c .before .before .before .before .before .before .before in
     let s = b .before .before .before in
     let (inside, row) = c .before .rank-from .ensures in
-    search-ends (given b) _ (s .pre .0) (s .pre .1) (made b) (c .before .rank-from .result) inside row
+    search-ends _ (given b) _ (s .pre .0) (s .pre .1) (made b) (c .before .rank-from .result) inside row
 
 pub place-of-spec : {M : Type 1} → statement M
 place-of-spec =

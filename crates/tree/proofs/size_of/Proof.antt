@@ -1,5 +1,6 @@
 -- `tree::size_of` meets its contract: for a sum up to 20 the index is in the table. Assumes nothing.
 use native.Mathlib.Omega.{arith}
+use mathlib.Core.Path.{refl}
 use borrow.Author.Needs.{needs}
 use Rattle.tree.proofs.Sizes.{sum-bound}
 use Rattle.tree.proofs.size_of.Statement.{statement}
@@ -21,10 +22,10 @@ mul-result : tie.Need-mul-result
 mul-result c = omega (arith, sum-bound (c .args .usable) (c .args .remaining) (c .pre .1))
 
 shared-slice-read-result : tie.Need-shared-slice-read-result
-shared-slice-read-result c = omega (arith, sum-bound (c .before .args .usable) (c .before .args .remaining) (c .before .pre .1), c .before .pre .0 .long)
+shared-slice-read-result c = omega (arith, sum-bound (c .before .args .usable) (c .before .args .remaining) (c .before .pre .1), c .before .pre .0)
 
 returns : tie.Need-returns
-returns c = c .before .pre .0 .holds (c .before .args .usable) (c .before .args .remaining) (c .before .pre .1)
+returns c = refl
 
 pub size-of-spec : {M : Type 1} → statement M
 size-of-spec =

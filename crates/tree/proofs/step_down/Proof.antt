@@ -10,7 +10,7 @@ sub-h : tie.Need-sub-h
 sub-h c = search needs
 
 child-size-requires : tie.Need-child-size-requires
-child-size-requires c κs = let pre = c .before .before .before .pre in (pre .0, pre .2, few (pre .1))
+child-size-requires c κs = let pre = c .before .before .before .pre in (pre .0, pre .2, few _ (pre .1))
 
 sub-child-at : tie.Need-sub-child-at
 sub-child-at c = search needs
@@ -27,7 +27,7 @@ swap-requires c κs = search needs
 usable-after-requires : tie.Need-usable-after-requires
 usable-after-requires c κs =
     let start = c .before .before .before .before .before .before .before .before .before .before in
-    omega (arith, few (start .pre .1))
+    omega (arith, few _ (start .pre .1))
 
 place-after-requires : tie.Need-place-after-requires
 place-after-requires c κs = search needs
@@ -44,7 +44,7 @@ returns c =
     let a = start .args in
     let falls = rw (child .before .child-size .ensures) at (child .child-at .ensures) in
     rw (c .place-after .ensures, usable .usable-after .ensures, swapped .swap .ensures, add-one)
-    (stepped-down (a .remaining) (a .place) (start .pre .1) (start .pre .2) (start .pre .3) (start .pre .4) falls)
+    (stepped-down (a .kind) (a .remaining) (a .place) (start .pre .1) (start .pre .2) (start .pre .3) (start .pre .4) falls)
 
 pub step-down-spec : {M : Type 1} → statement M
 step-down-spec =

@@ -27,7 +27,7 @@ unrank-from-requires : tie.Need-unrank-from-requires
 unrank-from-requires c κs =
     let b = c .before .before .before in
     let s = b .before .before .before .before .before in
-    (s .pre .0, (identity-stands _ (s .pre .1) (written b), s .pre .2))
+    (s .pre .0, (identity-stands (s .args .kind) _ (s .pre .1) (written b), s .pre .2))
 
 same-length : tie.Need-same-length
 same-length c = search needs
@@ -36,7 +36,7 @@ returns : tie.Need-returns
 returns c =
     let b = c .before .before .before .before .before .before in
     let s = b .before .before .before .before .before in
-    subst (λ (l : List (List ℕ)). c .before .before .unrank-from .last .1 .1 .1 .1 .0 ≡ rowAt l (s .args .place)) (identity-rows _ (written b)) (c .before .before .unrank-from .ensures)
+    subst (λ (l : List (List ℕ)). c .before .before .unrank-from .last .1 .1 .1 .1 .1 .0 ≡ rowAt l (s .args .place)) (identity-rows (s .args .kind) _ (written b)) (c .before .before .unrank-from .ensures)
 
 pub write-row-spec : {M : Type 1} → statement M
 write-row-spec =

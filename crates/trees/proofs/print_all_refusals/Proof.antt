@@ -5,10 +5,10 @@ use Rattle.trees.proofs.print_all_refusals.Statement.{statement}
 use Rattle.trees.proofs.print_all_refusals.Tie as tie
 
 abbrev Inv-loop : tie.InvT-loop
-Inv-loop n₀ n = Unit {0}
+Inv-loop kind n₀ n = Unit {0}
 
 abbrev μ-loop : tie.MeasureT-loop
-μ-loop n₀ n = 22 - n
+μ-loop kind n₀ n = 22 - n
 
 loop-holds : tie.Need-loop-holds Inv-loop μ-loop
 loop-holds c = search needs

@@ -5,25 +5,25 @@ use Rattle.trees.proofs.print_places.Statement.{statement}
 use Rattle.trees.proofs.print_places.Tie as tie
 
 abbrev Inv-loop : tie.InvT-loop
-Inv-loop t₀ t = Unit {0}
+Inv-loop kind t₀ t = Unit {0}
 
 abbrev μ-loop : tie.MeasureT-loop
-μ-loop t₀ t = 1296 - t
+μ-loop kind t₀ t = 1296 - t
 
 loop-holds : tie.Need-loop-holds Inv-loop μ-loop
 loop-holds c = search needs
 
-cast-t5 : tie.Need-cast-t5 Inv-loop μ-loop
-cast-t5 c = search needs
+cast-t6 : tie.Need-cast-t6 Inv-loop μ-loop
+cast-t6 c = search needs
 
-cast-t8 : tie.Need-cast-t8 Inv-loop μ-loop
-cast-t8 c = search needs
+cast-t9 : tie.Need-cast-t9 Inv-loop μ-loop
+cast-t9 c = search needs
 
-cast-t11 : tie.Need-cast-t11 Inv-loop μ-loop
-cast-t11 c = search needs
+cast-t12 : tie.Need-cast-t12 Inv-loop μ-loop
+cast-t12 c = search needs
 
-cast-t13 : tie.Need-cast-t13 Inv-loop μ-loop
-cast-t13 c = search needs
+cast-t14 : tie.Need-cast-t14 Inv-loop μ-loop
+cast-t14 c = search needs
 
 slice-aggregate-print-place : tie.Need-slice-aggregate-print-place Inv-loop μ-loop
 slice-aggregate-print-place c = search needs
@@ -50,10 +50,10 @@ print-places-spec =
     Inv-loop
     μ-loop
     loop-holds
-    cast-t5
-    cast-t8
-    cast-t11
-    cast-t13
+    cast-t6
+    cast-t9
+    cast-t12
+    cast-t14
     slice-aggregate-print-place
     print-place-requires
     add-t

@@ -1,12 +1,12 @@
--- `tree::involution_unrank` meets its contract: a refused call writes nothing, and where no check refuses the row is written. Assumes nothing.
+-- `tree::unrank` meets its contract: a refused call writes nothing, and where no check refuses the row is written. Assumes nothing.
 use mathlib.Core.Path.{sym, _∙_}
 use Prim.Native.Nat.{ℕ}
 use mathlib.Core.List.{List}
 use borrow.Author.Needs.{needs}
 use Rattle.stirling.proofs.Refusals.{unless-refuses}
 use Rattle.tree.proofs.Checked.{unrank-passed}
-use Rattle.tree.proofs.involution_unrank.Statement.{statement}
-use Rattle.tree.proofs.involution_unrank.Tie as tie
+use Rattle.tree.proofs.unrank.Statement.{statement}
+use Rattle.tree.proofs.unrank.Tie as tie
 
 table-requires : tie.Need-table-requires
 table-requires c κs = search needs
@@ -27,7 +27,7 @@ write-row-requires : tie.Need-write-row-requires
 write-row-requires c κs =
     let b = c .before .before in
     let s = b .before .before .before .before .before in
-    let (fits, inside, long) = unrank-passed (s .args .n) (s .args .place) _ (sym (b .before .check-unrank .ensures) ∙ b .if1 .left) in
+    let (fits, inside, long) = unrank-passed (s .args .kind) (s .args .n) (s .args .place) _ (sym (b .before .check-unrank .ensures) ∙ b .if1 .left) in
     (b .before .before .before .table .ensures, rw long fits, rw long inside)
 
 same-length : tie.Need-same-length
@@ -38,11 +38,11 @@ returns-2 c =
     let w = c .before .before in
     let b = w .before .before .before in
     let s = b .before .before .before .before .before in
-    let (fits, inside, long) = unrank-passed (s .args .n) (s .args .place) _ (sym (b .before .check-unrank .ensures) ∙ b .if1 .left) in
+    let (fits, inside, long) = unrank-passed (s .args .kind) (s .args .n) (s .args .place) _ (sym (b .before .check-unrank .ensures) ∙ b .if1 .left) in
     (sym (b .if1 .left) ∙ b .before .check-unrank .ensures, rw long at (w .write-row .ensures))
 
-pub involution-unrank-spec : {M : Type 1} → statement M
-involution-unrank-spec =
+pub unrank-spec : {M : Type 1} → statement M
+unrank-spec =
     tie.close
     (tie.spec
     table-requires

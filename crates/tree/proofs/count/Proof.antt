@@ -1,4 +1,4 @@
--- `tree::involution_count` meets its contract: what check 1 gives is handed on, and the count is the table's. Assumes nothing.
+-- `tree::count` meets its contract: what check 1 gives is handed on, and the count is the table's. Assumes nothing.
 use Prim.Native.Nat.{ℕ}
 use native.Mathlib.Omega.{arith}
 use mathlib.Core.Path.{_≡_, sym, _∙_}
@@ -6,8 +6,8 @@ use borrow.Author.Needs.{needs}
 use Rattle.stirling.specs.Count.{checkSize}
 use Rattle.stirling.proofs.Refusals.{unless-refuses}
 use Rattle.stirling.proofs.Counts.{size-passed}
-use Rattle.tree.proofs.involution_count.Statement.{statement}
-use Rattle.tree.proofs.involution_count.Tie as tie
+use Rattle.tree.proofs.count.Statement.{statement}
+use Rattle.tree.proofs.count.Tie as tie
 
 check-size-requires : tie.Need-check-size-requires
 check-size-requires c κs = search needs
@@ -35,8 +35,8 @@ returns-2 c =
     let passed : checkSize (b .before .before .args .n) ≡ 0 = sym (b .before .check-size .ensures) ∙ b .if1 .left in
     rw (passed, c .count-of .ensures)
 
-pub involution-count-spec : {M : Type 1} → statement M
-involution-count-spec =
+pub count-spec : {M : Type 1} → statement M
+count-spec =
     tie.close
     (tie.spec
     check-size-requires
