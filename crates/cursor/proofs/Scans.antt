@@ -1,27 +1,15 @@
--- What a scan of bytes from the front on gives, one byte further: laws of `same`, `firstFrom` and `position` on what is left of a list. Assumes nothing.
+-- What a scan of bytes from the front on gives, one byte further: laws of `firstFrom` and `position` on what is left of a list. Assumes nothing.
 use mathlib.Core.Path.{_≡_}
-use mathlib.Core.Bool.{true, false}
 use mathlib.Core.List.{List}
 use Prim.Native.Nat.{ℕ, suc, _+_, _≤_, _<_}
 use native.Mathlib.Numerals.{add-one}
 use lib.ListN.{length, getD, drop, drop-of-length-le}
 use lib.Seq.{drop-cons}
 use borrow.Author.Tests.{eq-eqb, ne-eqb}
-use Rattle.perm.specs.Lists.{same}
 use Rattle.perm.specs.Array.{position}
 use Rattle.cursor.specs.Machine.{firstFrom}
 
 module _ (s t : List ℕ) (i : ℕ) (h : i < length s) (k : i < length t) where
-  -- two lists with the same byte next are the same if the rest is
-  pub same-next : getD s i 0 ≡ getD t i 0 → same (drop i s) (drop i t) ≡ same (drop (i + 1) s) (drop (i + 1) t)
-  unfolding same
-  same-next e = rw (drop-cons s i 0, drop-cons t i 0, eq-eqb (getD s i 0) (getD t i 0) e, add-one)
-
-  -- and are not with another one
-  pub same-stops : (getD s i 0 ≡ getD t i 0 → ⊥) → same (drop i s) (drop i t) ≡ false
-  unfolding same
-  same-stops d = rw (drop-cons s i 0, drop-cons t i 0, ne-eqb (getD s i 0) (getD t i 0) d)
-
   -- two rows with the same byte next differ later
   pub first-next : getD s i 0 ≡ getD t i 0 → firstFrom (i + 1) (drop i s) (drop i t) ≡ firstFrom (i + 1 + 1) (drop (i + 1) s) (drop (i + 1) t)
   unfolding firstFrom
@@ -31,11 +19,6 @@ module _ (s t : List ℕ) (i : ℕ) (h : i < length s) (k : i < length t) where
   pub first-stops : (getD s i 0 ≡ getD t i 0 → ⊥) → firstFrom (i + 1) (drop i s) (drop i t) ≡ i + 1
   unfolding firstFrom
   first-stops d = rw (drop-cons s i 0, drop-cons t i 0, ne-eqb (getD s i 0) (getD t i 0) d)
-
--- two lists that have ended are the same
-pub same-ends : (s t : List ℕ) (i : ℕ) → length s ≤ i → length t ≤ i → same (drop i s) (drop i t) ≡ true
-unfolding same
-same-ends s t i h k = rw (drop-of-length-le s h, drop-of-length-le t k)
 
 -- two rows that have ended differ one past them
 pub first-ends : (s t : List ℕ) (i : ℕ) → length s ≤ i → firstFrom (i + 1) (drop i s) (drop i t) ≡ i + 1

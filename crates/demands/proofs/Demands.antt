@@ -18,6 +18,7 @@ use Rattle.perm.specs.Cycle.{cycles, follow}
 use Rattle.perm.specs.Array.{IsArray, IsArrayOf, product, position}
 use Rattle.perm.specs.declared.Array.{Array}
 use Rattle.perm.specs.Checks.{checkToArray, checkPermutation, ToArray}
+use Rattle.perm.specs.Pairs.{Pair, front, pairsIn}
 use Rattle.perm.proofs.Arrays.{product-permutation, has-array, one-array, cycles-product}
 use Rattle.perm.proofs.Apart as Apart
 use Rattle.perm.proofs.Cases as FixedPoints
@@ -47,7 +48,7 @@ use Rattle.explain.proofs.Answered.{adds-up, lead, as-ranked}
 use Rattle.explain.proofs.Cases as Levels
 use Rattle.exchanges.specs.declared.Exchanges.{Exchanges}
 use Rattle.exchanges.specs.Carrying.{Carries, carrying}
-use Rattle.exchanges.specs.Pairs.{Pair, pairsOf, exchangeAll, Inside, front, pairsIn}
+use Rattle.exchanges.specs.Pairs.{pairsOf, exchangeAll, Inside}
 use Rattle.exchanges.specs.Between.{Exchanged}
 use Rattle.exchanges.proofs.Carrying.{carries, one-carries}
 use Rattle.exchanges.proofs.Answered.{literal, turns, number, least, none}

@@ -14,16 +14,17 @@ use Rattle.perm.specs.Permutation.{IsPermutation}
 use Rattle.perm.specs.Cycle.{cycles}
 use Rattle.perm.specs.Array.{IsArrayOf, arrayOf}
 use Rattle.perm.specs.Checks.{checkValues, checkTwice, checkPermutation}
+use Rattle.perm.specs.Pairs.{Pair, bytesOf, front, pairsIn}
 use Rattle.perm.proofs.ArrayOf.{is-array-of}
 use Rattle.perm.proofs.Refused.{lent-passes}
 use Rattle.perm.proofs.Checked.{checked}
+use Rattle.perm.proofs.Pairs.{pairs-bytes, take-front, length-front}
 use Rattle.exchanges.specs.declared.Exchanges.{Exchanges}
 use Rattle.exchanges.specs.Carrying.{Carries, carrying}
-use Rattle.exchanges.specs.Pairs.{Pair, pairsOf, exchangeAll, Inside, bytesOf, front, pairsIn}
+use Rattle.exchanges.specs.Pairs.{pairsOf, exchangeAll, Inside}
 use Rattle.exchanges.specs.Between.{pairsBetween, checkLengths, checkContents, checkRoom, Exchanged}
 use Rattle.exchanges.proofs.Both.{Both, between-passed}
 use Rattle.exchanges.proofs.Carrying.{carries, one-carries}
-use Rattle.exchanges.proofs.Pairs.{pairs-bytes, take-front, length-front}
 use Rattle.exchanges.proofs.Exchanging.{inside, turned, counted, fewest}
 
 module _ {s t before after : List ℕ} {r : Exchanges} (x : Exchanged s t before r after) where

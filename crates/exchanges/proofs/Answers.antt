@@ -14,7 +14,8 @@ use Rattle.perm.proofs.Values.{at-suc}
 use Rattle.perm.proofs.ArrayOf.{is-array-of}
 use Rattle.exchanges.specs.declared.Exchanges.{Exchanges}
 use Rattle.exchanges.specs.Carrying.{carrying}
-use Rattle.exchanges.specs.Pairs.{pairsTo, front}
+use Rattle.perm.specs.Pairs.{front}
+use Rattle.exchanges.specs.Pairs.{pairsTo}
 use Rattle.exchanges.specs.Between.{pairsBetween, checkLengths, checkContents, checkRoom, checkBetween, Exchanged}
 use Rattle.exchanges.proofs.Both.{Both}
 use Rattle.exchanges.proofs.Carrying.{carries}

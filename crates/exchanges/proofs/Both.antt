@@ -1,20 +1,19 @@
 -- The checks on two permutations: what passes them, and how the refusals of the two make one. Assumes nothing.
 use mathlib.Core.Path.{_≡_, refl, _∙_}
 use Prim.Native.Nat.{ℕ, _*_, _≤_}
-use mathlib.Core.Bool.{Bool, true, false, not, cond}
+use mathlib.Core.Bool.{Bool, true, false, cond}
 use mathlib.Core.List.{List}
 use lib.Dec.{eqb, ltb}
 use lib.ListN.{length}
 use borrow.Author.Tests.{ltb-false}
-use Rattle.stirling.specs.Refusal.{refuse, _then_, within}
+use Rattle.stirling.specs.Refusal.{refuse, _then_}
 use Rattle.stirling.specs.Count.{checkSize}
 use Rattle.stirling.proofs.Counts.{size-passes}
 use Rattle.stirling.proofs.Refusals.{then-passed, then-passes, refuse-passed}
-use Rattle.perm.specs.Lists.{tally, some, positions}
 use Rattle.perm.specs.Permutation.{IsPermutation}
 use Rattle.perm.specs.Checks.{checkLent, checkValues, checkTwice, checkPermutation}
 use Rattle.perm.proofs.Refused as Refused
-use Rattle.perm.proofs.Checked.{checked}
+use Rattle.perm.proofs.Checked.{checked, someOutside, someTwice}
 use Rattle.exchanges.specs.Between.{pairsBetween, checkLengths, checkContents, checkRoom, checkBetween}
 
 -- two permutations of one n
@@ -58,15 +57,8 @@ in-order true false c false = refl
 in-order false false c true = refl
 in-order false false c false = refl
 
--- some value is not 1 to n, and some value is there twice
-abbrev outside : List ℕ → Bool
-outside s = some (λ v. not (within 1 (length s) v)) s
-
-abbrev repeated : List ℕ → Bool
-repeated s = some (λ v. ltb 1 (tally (eqb v) s)) (positions (length s))
-
 -- the refusals of the two make that of both
 pub either : (s t : List ℕ) (first second : ℕ) → length s ≤ 20 → length t ≤ 20 → first ≡ checkPermutation s → second ≡ checkPermutation t
     → cond (eqb second 6) 6 (first then second) ≡ checkContents s t
 either s t first second h k f g =
-    rw (f, g, size-passes (length s) h, size-passes (length t) k) (in-order (outside s) (outside t) (repeated s) (repeated t))
+    rw (f, g, size-passes (length s) h, size-passes (length t) k) (in-order (someOutside s) (someOutside t) (someTwice s) (someTwice t))

@@ -18,7 +18,8 @@ use Rattle.perm.proofs.Parity.{exchange-permutation, exchange-near}
 use Rattle.perm.proofs.Arrays.{cycles-product}
 use Rattle.perm.proofs.ArrayOf.{array-of}
 use Rattle.exchanges.specs.Carrying.{multiply, Carries, carrying}
-use Rattle.exchanges.specs.Pairs.{Pair, pairAt, pairsTo, pairsOf, exchangeAll, Inside}
+use Rattle.perm.specs.Pairs.{Pair}
+use Rattle.exchanges.specs.Pairs.{pairAt, pairsTo, pairsOf, exchangeAll, Inside}
 use Rattle.exchanges.specs.Between.{pairsBetween}
 use Rattle.exchanges.proofs.Pairs.{by-entry, pairs-number}
 use Rattle.exchanges.proofs.Carrying.{multiply-exchange, multiply-identity, carries, one-carries}

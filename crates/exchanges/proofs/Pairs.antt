@@ -1,21 +1,21 @@
--- The pairs of an array one after another, and their bytes in the front of a buffer: what the loops that count and write them keep. Assumes nothing.
+-- The pairs of an array one after another: what the loops that count and write them keep. Assumes nothing.
 use mathlib.Core.Path.{_≡_, refl, sym, ap, ap₂, _∙_}
-use Prim.Native.Nat.{ℕ, zero, suc, _+_, _*_, _-_, _≤_, _<_}
+use Prim.Native.Nat.{ℕ, zero, suc, _+_, _-_, _≤_, _<_}
 use native.Mathlib.Numerals.{add-one}
 use native.Mathlib.Nat.{add-zero, add-suc, le-refl}
 use native.Mathlib.Omega.{arith}
 use mathlib.Core.Bool.{not}
 use mathlib.Core.List.{List, [], _∷_, _++_, append-nil}
 use lib.Dec.{eqb}
-use lib.ListN.{length, getD, take, drop, set, length-append, length-drop}
-use lib.Seq.{sets-eq, take-at, drop-append-add, drop-drop}
+use lib.ListN.{length, getD, length-append}
 use borrow.Table.Steps.{cases}
 use borrow.Author.Tests.{eqb-true, eqb-false, eq-eqb, ne-eqb}
 use Rattle.perm.specs.Lists.{one, tally, range, positions}
 use Rattle.perm.specs.Permutation.{at}
 use Rattle.perm.proofs.Tally.{tally-positions, tally-not, length-range}
 use Rattle.perm.proofs.Values.{at-suc}
-use Rattle.exchanges.specs.Pairs.{Pair, pairAt, pairsTo, bytesOf, front, pairsIn}
+use Rattle.perm.specs.Pairs.{Pair}
+use Rattle.exchanges.specs.Pairs.{pairAt, pairsTo}
 
 -- what holds of no pair where an entry is fixed, and of its pair where it is not, holds of what the entry gives
 pub by-entry : (P : List Pair → Type 0) (p : List ℕ) (i : ℕ) → (at p i ≡ i → P []) → ((at p i ≡ i → ⊥) → P ((at p i, i) ∷ [])) → P (pairAt p i)
@@ -68,42 +68,3 @@ pub pairs-room : (p : List ℕ) (i n : ℕ) → i < n → (getD p i 0 ≡ i + 1 
 pairs-room p i n h d =
     let e : i + 1 + (n - (i + 1)) ≡ n = omega arith in
     omega (arith, length-moved p i d, pairs-more p (i + 1) (n - (i + 1)), ap (λ (m : ℕ). length (pairsTo p m)) e)
-
-bytes-append : (x y : List Pair) → bytesOf (x ++ y) ≡ bytesOf x ++ bytesOf y
-unfolding bytesOf
-bytes-append [] y = refl
-bytes-append (a ∷ x) y = ap (λ (l : List ℕ). a .0 ∷ a .1 ∷ l) (bytes-append x y)
-
--- two bytes a pair
-length-bytes : (x : List Pair) → length (bytesOf x) ≡ 2 * length x
-unfolding bytesOf
-length-bytes [] = refl
-length-bytes (a ∷ x) = omega (arith, length-bytes x)
-
--- bytes of pairs, read as pairs
-pub pairs-bytes : (x : List Pair) → pairsIn (bytesOf x) ≡ x
-unfolding bytesOf pairsIn
-pairs-bytes [] = refl
-pairs-bytes (a ∷ x) = ap (λ (l : List Pair). a ∷ l) (pairs-bytes x)
-
--- the front of a buffer
-module _ (x : List Pair) (before : List ℕ) where
-  -- holds the pairs
-  pub take-front : take (2 * length x) (front x before) ≡ bytesOf x
-  take-front = take-at (bytesOf x) (drop (2 * length x) before) (2 * length x) (length-bytes x)
-
-  -- and the buffer is as long as it was
-  pub length-front : 2 * length x ≤ length before → length (front x before) ≡ length before
-  length-front h = rw (length-append (bytesOf x) (drop (2 * length x) before), length-drop (2 * length x) before, length-bytes x) (omega arith)
-
-  -- two bytes more
-  pub front-step : (a b : ℕ) → 2 * suc (length x) ≤ length before
-      → set (set (front x before) (2 * length x) a) (2 * length x + 1) b ≡ front (x ++ ((a, b) ∷ [])) before
-  unfolding bytesOf
-  front-step a b h =
-      let l = 2 * length x in
-      let after : drop (l + 2) (front x before) ≡ drop (l + 2) before =
-      rw (← length-bytes x, drop-append-add (bytesOf x) (drop (length (bytesOf x)) before) 2, drop-drop 2 (length (bytesOf x)) before) in
-      let more : l + 2 ≡ 2 * length (x ++ ((a, b) ∷ [])) = omega (arith, length-append x ((a, b) ∷ [])) in
-      rw (add-one, sets-eq (a ∷ b ∷ []) (front x before) l (omega (arith, length-front (omega arith))), take-front, after)
-      (ap₂ (λ (u v : List ℕ). u ++ v) (sym (bytes-append x ((a, b) ∷ []))) (ap (λ (k : ℕ). drop k before) more))

@@ -8,9 +8,10 @@ use Rattle.stirling.specs.Refusal.{refuse, _then_}
 use Rattle.stirling.specs.Count.{checkSize}
 use Rattle.perm.specs.Array.{arrayOf}
 use Rattle.perm.specs.Checks.{checkLent, checkValues, checkTwice}
+use Rattle.perm.specs.Pairs.{Pair, front}
 use Rattle.exchanges.specs.declared.Exchanges.{Exchanges}
 use Rattle.exchanges.specs.Carrying.{carrying}
-use Rattle.exchanges.specs.Pairs.{Pair, pairsOf, front}
+use Rattle.exchanges.specs.Pairs.{pairsOf}
 
 -- the pairs from s to t: those of the array of the permutation that carries s to t
 abbrev pub pairsBetween : List ℕ → List ℕ → List Pair

@@ -1,14 +1,11 @@
 -- Document 02, c): pairs of positions whose values are exchanged, one pair after another. These are definitions; nothing is assumed.
-use Prim.Native.Nat.{ℕ, zero, suc, _*_, _≤_}
+use Prim.Native.Nat.{ℕ, zero, suc, _≤_}
 use mathlib.Core.Bool.{cond}
 use mathlib.Core.List.{List, [], _∷_, _++_}
 use lib.Dec.{eqb}
-use lib.ListN.{length, drop}
+use lib.ListN.{length}
 use Rattle.perm.specs.Permutation.{at, exchange}
-
--- two positions
-abbrev pub Pair : Type 0
-Pair = ℕ × ℕ
+use Rattle.perm.specs.Pairs.{Pair}
 
 -- the pair pi, i, where the array p has pi other than i, and else none
 abbrev pub pairAt : List ℕ → ℕ → List Pair
@@ -32,18 +29,3 @@ exchangeAll (x ∷ xs) s = exchangeAll xs (exchange (x .0) (x .1) s)
 unfoldable pub Inside : ℕ → List Pair → Type 0
 Inside n [] = Unit
 Inside n (x ∷ xs) = (1 ≤ x .0) × (x .0 ≤ n) × (1 ≤ x .1) × (x .1 ≤ n) × Inside n xs
-
--- pairs as two bytes each
-unfoldable pub bytesOf : List Pair → List ℕ
-bytesOf [] = []
-bytesOf (x ∷ xs) = x .0 ∷ x .1 ∷ bytesOf xs
-
--- the bytes of pairs in the front of a buffer that held `before`; the bytes after them stay
-abbrev pub front : List Pair → List ℕ → List ℕ
-front x before = bytesOf x ++ drop (2 * length x) before
-
--- bytes read as pairs
-unfoldable pub pairsIn : List ℕ → List Pair
-pairsIn [] = []
-pairsIn (a ∷ []) = []
-pairsIn (a ∷ b ∷ bytes) = (a, b) ∷ pairsIn bytes

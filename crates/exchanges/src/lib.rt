@@ -10,8 +10,9 @@ ghost use lib.ListN.{length, getD, take};
 ghost use Rattle.stirling.specs.Refusal.{_then_};
 ghost use Rattle.perm.specs.Permutation.{IsPermutation};
 ghost use Rattle.perm.specs.Array.{IsArrayOf};
+ghost use Rattle.perm.specs.Pairs.{front};
 ghost use Rattle.exchanges.specs.Carrying.{carrying};
-ghost use Rattle.exchanges.specs.Pairs.{pairsTo, front};
+ghost use Rattle.exchanges.specs.Pairs.{pairsTo};
 ghost use Rattle.exchanges.specs.Between.{checkLengths, checkContents, Exchanged};
 
 // How many pairs of positions are exchanged, and how many bytes they were written to. Zeros on a refusal.

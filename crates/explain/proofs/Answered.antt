@@ -14,7 +14,7 @@ use Rattle.perm.specs.Checks.{checkPermutation}
 use Rattle.gray.specs.Order.{Row}
 use Rattle.rank.specs.declared.Standing.{Standing}
 use Rattle.rank.specs.Place.{Ranked}
-use Rattle.rank.proofs.Stands.{permutation-passed}
+use Rattle.perm.proofs.Refused.{permutation-passed}
 use Rattle.rank.proofs.RoundTrip.{one-standing}
 use Rattle.explain.specs.declared.Level.{Level}
 use Rattle.explain.specs.declared.Explanation.{Explanation}

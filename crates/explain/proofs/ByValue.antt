@@ -17,7 +17,7 @@ use Rattle.rank.specs.declared.Step.{Step}
 use Rattle.rank.specs.declared.Descent.{Descent}
 use Rattle.rank.specs.Place.{StandsAt}
 use Rattle.rank.specs.Descent.{steps, still, Descends}
-use Rattle.rank.proofs.Stands.{permutation-passed}
+use Rattle.perm.proofs.Refused.{permutation-passed}
 use Rattle.explain.specs.declared.Explained.{Explained}
 use Rattle.explain.specs.declared.Summed.{Summed}
 use Rattle.explain.specs.Levels.{lettered, total}

@@ -13,7 +13,7 @@ use Rattle.stirling.specs.Refusal.{refuse}
 use Rattle.stirling.proofs.Refusals.{then-passed, refuse-passed, unless-passes, unless-refuses}
 use Rattle.perm.specs.Cycle.{cycles}
 use Rattle.perm.specs.Checks.{checkPermutation}
-use Rattle.rank.proofs.Stands.{permutation-passed}
+use Rattle.perm.proofs.Refused.{permutation-passed}
 use Rattle.explain.specs.declared.Level.{Level}
 use Rattle.explain.specs.declared.Explained.{Explained}
 use Rattle.explain.specs.Explain.{checkExplain, rowsOf, rowsWritten, blank, IsExplained, Explains}

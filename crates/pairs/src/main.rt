@@ -2,21 +2,6 @@
 // whose values are exchanged to turn the one into the other. `stdout` comes from another author's generator.
 use libc::STDIN_FILENO;
 
-// Pairs of two bytes each, one after another.
-fn print_pairs(bytes: &[u8]) {
-    let mut at = 0;
-    while at < bytes.len() {
-        if bytes.len() - at < 2 {
-            return;
-        }
-        if at != 0 {
-            print::text(b"; ");
-        }
-        print::values(&bytes[at..at + 2]);
-        at += 2;
-    }
-}
-
 // The line of two permutations.
 fn print_exchanges(from: &[u8], to: &[u8]) {
     let mut out = [0u8; 38];
@@ -26,7 +11,7 @@ fn print_exchanges(from: &[u8], to: &[u8]) {
     print::values(to);
     print::text(b" | ");
     let written = answer.written as usize;
-    print_pairs(&out[..written]);
+    print::pairs(&out[..written]);
     print::text(b"\n");
 }
 

@@ -1,7 +1,7 @@
 -- Two different permutations of n with equally many cycles differ on at least three positions. Assumes nothing.
 use mathlib.Core.Path.{_≡_, refl, _∙_, sym, ap}
 use mathlib.Core.Logic.{_≢_, _⊎_, inl, inr}
-use Prim.Native.Nat.{ℕ, zero, suc, _+_, _-_, _≤_, _<_}
+use Prim.Native.Nat.{ℕ, suc, _+_, _-_, _≤_, _<_}
 use native.Mathlib.Omega.{arith}
 use native.Mathlib.Decide.{ℕ-discrete}
 use mathlib.Core.Bool.{Bool, true, false, not, cond}
@@ -9,10 +9,10 @@ use mathlib.Core.List.{List, [], _∷_}
 use lib.Dec.{eqb}
 use borrow.Author.Tests.{eq-eqb, ne-eqb}
 use lib.ListN.{length, getD}
-use Rattle.perm.specs.Lists.{tally, range, positions}
+use Rattle.perm.specs.Lists.{one, tally, range, positions}
 use Rattle.perm.specs.Permutation.{IsPermutation, at, exchange, distance}
 use Rattle.perm.specs.Cycle.{cycles}
-use Rattle.perm.proofs.Tally.{tally-range-cong}
+use Rattle.perm.proofs.Counting.{tally-differs}
 use Rattle.perm.proofs.Values.{in-range, injective, onto}
 use Rattle.perm.proofs.Exchange.{length-exchange, at-exchange-left, at-exchange-right, at-exchange-other}
 use Rattle.perm.proofs.Parity.{exchange-parity}
@@ -27,16 +27,9 @@ but-other p i x d = rw (ne-eqb x i d)
 
 -- a number of a range that passes counts one
 tally-but : (p : ℕ → Bool) (a n i : ℕ) → a ≤ i → i < a + n → p i ≡ true → tally p (range a n) ≡ suc (tally (but i p) (range a n))
-unfolding tally range
-tally-but p a zero i h k e = absurd (omega arith)
-tally-but p a (suc n) i h k e = by-first (ℕ-discrete a i) (tally-but p (suc a) n i)
-  where
-    by-first : Dec (a ≡ i) → (suc a ≤ i → i < suc a + n → p i ≡ true → tally p (range (suc a) n) ≡ suc (tally (but i p) (range (suc a) n)))
-        → tally p (range a (suc n)) ≡ suc (tally (but i p) (range a (suc n)))
-    by-first (yes q) ih =
-        let rest = tally-range-cong (but i p) p (suc a) n (λ x l u. but-other p i x (omega arith)) in
-        rw (rest, eq-eqb a i q, ap p q ∙ e) (omega arith)
-    by-first (no d) ih = rw (but-other p i a d, ih (omega arith) (omega arith) e) (omega arith)
+tally-but p a n i h k e =
+    let none : but i p i ≡ false = rw (eq-eqb i i refl) in
+    omega (arith, tally-differs p (but i p) i a n h k (λ x _ _ d. sym (but-other p i x d)), ap one e, ap one none)
 
 -- a number of 1 to n that passes the test p
 abbrev Passes : (ℕ → Bool) → ℕ → ℕ → Type 0

@@ -18,22 +18,29 @@ use Rattle.perm.proofs.Tally.{none-passes, tally-none, range-none-passe
 use Rattle.perm.proofs.Values.{in-range, entries-within, counted}
 
 -- A check whether some element passes a test: where it refuses nothing, no element does
-unrefused {ℓ} : {A : Type ℓ} (p : A → Bool) (s : List A) (number : ℕ) → refuse (some p s) (suc number) ≡ 0 → tally p s ≡ 0
+pub unrefused {ℓ} : {A : Type ℓ} (p : A → Bool) (s : List A) (number : ℕ) → refuse (some p s) (suc number) ≡ 0 → tally p s ≡ 0
 unrefused p s number e = omega (arith, ltb-false 0 (tally p s) (refuse-passed (some p s) number e))
 
 -- and the converse
-unrefused-by {ℓ} : {A : Type ℓ} (p : A → Bool) (s : List A) (number : ℕ) → tally p s ≡ 0 → refuse (some p s) number ≡ 0
+pub unrefused-by {ℓ} : {A : Type ℓ} (p : A → Bool) (s : List A) (number : ℕ) → tally p s ≡ 0 → refuse (some p s) number ≡ 0
 unrefused-by p s number e = rw (le-ltb 0 (tally p s) (omega arith))
 
 -- the tests of check 6 on a permutation, of check 7, and of check 6 on an array
-abbrev outside : List ℕ → ℕ → Bool
+abbrev pub outside : List ℕ → ℕ → Bool
 outside s v = not (within 1 (length s) v)
 
-abbrev twice : List ℕ → ℕ → Bool
+abbrev pub twice : List ℕ → ℕ → Bool
 twice s v = ltb 1 (tally (eqb v) s)
 
 abbrev above : List ℕ → ℕ → Bool
 above p i = not (within 1 i (at p i))
+
+-- some value is not 1 to n, and some value is there twice
+abbrev pub someOutside : List ℕ → Bool
+someOutside s = some (outside s) s
+
+abbrev pub someTwice : List ℕ → Bool
+someTwice s = some (twice s) (positions (length s))
 
 -- what checks 6 and 7 do not refuse is a permutation
 pub checked : (s : List ℕ) → checkValues s ≡ 0 → checkTwice s ≡ 0 → IsPermutation (length s) s

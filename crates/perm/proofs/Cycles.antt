@@ -26,7 +26,7 @@ unfolding follow
 follow-add s zero u i = rw zero-add
 follow-add s (suc t) u i = rw suc-add (ap (at s) (follow-add s t u i))
 
-follow-fixed : (s : List ℕ) (i : ℕ) → at s i ≡ i → (t : ℕ) → follow s t i ≡ i
+pub follow-fixed : (s : List ℕ) (i : ℕ) → at s i ≡ i → (t : ℕ) → follow s t i ≡ i
 unfolding follow
 follow-fixed s i e zero = refl
 follow-fixed s i e (suc t) = ap (at s) (follow-fixed s i e t) ∙ e
@@ -43,7 +43,7 @@ module _ {n : ℕ} {s : List ℕ} (p : IsPartial n s) (i : ℕ) (h : i ≤ n) (g
   inside t l = follow-inside p i h t (λ u b. goes u (omega arith))
 
   -- equal positions after a and after a + d steps: d steps lead back
-  repeat-closes : (a d : ℕ) → a + d ≤ n → follow s a i ≡ follow s (a + d) i → i ≡ follow s d i
+  pub repeat-closes : (a d : ℕ) → a + d ≤ n → follow s a i ≡ follow s (a + d) i → i ≡ follow s d i
   unfolding follow
   repeat-closes zero d l e = rw zero-add at e
   repeat-closes (suc a) d l e =
@@ -60,7 +60,7 @@ module _ {n : ℕ} {s : List ℕ} (p : IsPartial n s) (i : ℕ) (h : i ≤ n) (g
       (b - a, omega arith, omega arith, sym (repeat-closes a (b - a) (omega arith) (rw d e)))
 
 -- a permutation is a partial one
-partial : {n : ℕ} {s : List ℕ} → IsPermutation n s → IsPartial n s
+pub partial : {n : ℕ} {s : List ℕ} → IsPermutation n s → IsPartial n s
 partial p = record {
   size = p .size;
   bound = λ i h k. in-range p i h k .1;

@@ -1,4 +1,5 @@
 pub mod Tally
+pub mod Pairs
 pub mod Same
 pub mod Counted
 pub mod Fixed
@@ -10,9 +11,10 @@ pub mod Exchange
 pub mod Arrays
 pub mod ArrayOf
 pub mod Parity
-pub mod Apart
 pub mod Checked
 pub mod Refused
 pub mod Search
+pub mod Counting
+pub mod Apart
 pub mod Steps
 pub mod Cases

@@ -9,7 +9,7 @@ use Rattle.stirling.specs.Count.{checkSize}
 use Rattle.stirling.proofs.Refusals.{refuse-passed, then-passes, then-passed}
 use Rattle.stirling.proofs.Counts.{size-passed}
 use Rattle.perm.specs.Permutation.{IsPermutation}
-use Rattle.perm.specs.Checks.{checkLent, checkValues, checkTwice}
+use Rattle.perm.specs.Checks.{checkLent, checkValues, checkTwice, checkPermutation}
 use Rattle.perm.proofs.Checked.{checked}
 
 -- a check that does not refuse leaves the answer to the next
@@ -39,3 +39,10 @@ pub contents-passed : (s : List ℕ) → checkValues s then checkTwice s ≡ 0 �
 contents-passed s e =
     let both = then-passed (checkValues s) (checkTwice s) e in
     checked s (both .0) (both .1)
+
+-- where checks 1, 6 and 7 pass there is a permutation of at most 20 values
+pub permutation-passed : (s : List ℕ) → checkPermutation s ≡ 0 → (length s ≤ 20) × IsPermutation (length s) s
+permutation-passed s e =
+    let (before, twice) = then-passed (checkSize (length s) then checkValues s) (checkTwice s) e in
+    let (size, values) = then-passed (checkSize (length s)) (checkValues s) before in
+    (size-passed (length s) size, checked s values twice)

@@ -3,3 +3,4 @@ pub mod Permutation
 pub mod Cycle
 pub mod Array
 pub mod Checks
+pub mod Pairs

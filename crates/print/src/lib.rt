@@ -46,6 +46,21 @@ pub fn values(s: &[u8]) {
     bytes(&s[1..]);
 }
 
+// Pairs of two bytes each, spaces within, semicolons between.
+pub fn pairs(bytes: &[u8]) {
+    let mut at = 0;
+    while at < bytes.len() {
+        if bytes.len() - at < 2 {
+            return;
+        }
+        if at != 0 {
+            text(b"; ");
+        }
+        values(&bytes[at..at + 2]);
+        at += 2;
+    }
+}
+
 // The place that eight bytes name, the highest first.
 pub fn place_of(bytes: &[u8]) -> u64 {
     let mut place = 0;

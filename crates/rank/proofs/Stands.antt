@@ -9,7 +9,7 @@ use lib.ListN.{length, take, drop, replicate, length-append}
 use lib.Seq.{length-take-le, take-at}
 use Rattle.stirling.specs.Refusal.{_then_}
 use Rattle.stirling.specs.Count.{checkSize}
-use Rattle.stirling.proofs.Refusals.{then-stops, then-passed}
+use Rattle.stirling.proofs.Refusals.{then-stops}
 use Rattle.stirling.proofs.Counts.{size-passed}
 use Rattle.perm.specs.Permutation.{IsPermutation, fixed}
 use Rattle.perm.specs.Cycle.{cycles}
@@ -18,7 +18,7 @@ use Rattle.perm.specs.Checks.{checkValues, checkTwice, checkPermutation, ToArra
 use Rattle.perm.specs.declared.Array.{Array}
 use Rattle.perm.proofs.Arrays.{product-permutation, cycles-product}
 use Rattle.perm.proofs.ArrayOf.{array-of, is-array-of}
-use Rattle.perm.proofs.Checked.{checked}
+use Rattle.perm.proofs.Refused.{permutation-passed}
 use Rattle.rank.specs.declared.Entries.{Entries}
 use Rattle.rank.specs.Place.{StandsAt}
 use Rattle.rank.specs.Ranking.{HasEntries, Rankable, PlaceIn}
@@ -67,13 +67,6 @@ module _ {s a : List ℕ} (w : IsArrayOf s a) where
   pub fixed-cycles : {k : ℕ} → k ≡ fixed a → k ≡ cycles s
   unfolding fixed
   fixed-cycles e = e ∙ sym (cycles-product (rw (w .array .size) (w .array))) ∙ ap cycles (w .equal)
-
--- where checks 1, 6 and 7 pass there is a permutation of at most 20 values
-pub permutation-passed : (s : List ℕ) → checkPermutation s ≡ 0 → (length s ≤ 20) × IsPermutation (length s) s
-permutation-passed s e =
-    let (before, twice) = then-passed (checkSize (length s) then checkValues s) (checkTwice s) e in
-    let (size, values) = then-passed (checkSize (length s)) (checkValues s) before in
-    (size-passed (length s) size, checked s values twice)
 
 -- what was read and not refused: the array of the permutation stands in front
 module _ {s : List ℕ} {r : Entries} (w : HasEntries s r) (passed : r .refusal ≡ 0) where

@@ -9,21 +9,21 @@ use lib.Dec.{eqb, leb}
 use lib.ListN.{length, take, drop, length-append}
 use lib.Seq.{length-take-le, take-at}
 use borrow.Author.Tests.{eqb-true, leb-false, ltb-false, not-false}
-use Rattle.stirling.specs.Refusal.{refuse, _then_}
+use Rattle.stirling.specs.Refusal.{refuse}
 use Rattle.stirling.specs.Count.{checkSize}
 use Rattle.stirling.proofs.Refusals.{refuse-passed, then-passed}
 use Rattle.stirling.proofs.Counts.{size-passes, size-passed}
 use Rattle.perm.specs.Lists.{tally, some, range, positions}
 use Rattle.perm.specs.Permutation.{IsPermutation}
 use Rattle.perm.specs.Array.{IsArray, IsArrayOf, partial, product}
-use Rattle.perm.specs.Checks.{checkLent, checkValues, checkTwice, checkPermutation, checkFromArray, ToArray, FromArray}
+use Rattle.perm.specs.Checks.{checkLent, checkPermutation, checkFromArray, ToArray, FromArray}
 use Rattle.perm.specs.declared.Array.{Array}
 use Rattle.perm.proofs.Tally.{length-range, range-none-passes}
 use Rattle.perm.proofs.Values.{at-positions}
 use Rattle.perm.proofs.Exchange.{exchange-same}
 use Rattle.perm.proofs.Arrays.{product-partial}
-use Rattle.perm.proofs.Checked.{checked, passes-values, passes-twice, passes-array}
-use Rattle.perm.proofs.Refused.{lent-passes}
+use Rattle.perm.proofs.Checked.{passes-values, passes-twice, passes-array}
+use Rattle.perm.proofs.Refused.{lent-passes, permutation-passed}
 use Rattle.perm.proofs.Same.{same-equal, same-false}
 use Rattle.tree.specs.Tree.{Rule, tree}
 use Rattle.tree.specs.Kind.{ruleOf, listed, breaks, refusalOf, IsOf}
@@ -38,13 +38,6 @@ use Rattle.tree.proofs.Subtree.{tree-rows}
 use Rattle.tree.proofs.Once.{only, partial-allowed}
 use Rattle.tree.proofs.PerKind.{fits}
 use Rattle.tree.proofs.Places.{size-listed}
-
--- where checks 1, 6 and 7 pass, the slice is short and a permutation
-pub permutation-passed : (s : List ℕ) → checkPermutation s ≡ 0 → (length s ≤ 20) × IsPermutation (length s) s
-permutation-passed s e =
-    let (most, twice) = then-passed (checkSize (length s) then checkValues s) (checkTwice s) e in
-    let (fits, values) = then-passed (checkSize (length s)) (checkValues s) most in
-    (size-passed (length s) fits, checked s values twice)
 
 -- a test that is not refused does not apply
 kind-passed : (kind : Kind) (b : Bool) → refuse b (refusalOf kind) ≡ 0 → b ≡ false

@@ -4,7 +4,7 @@ use Prim.Native.Nat.{_≤_, _-_}
 use native.Mathlib.Omega.{arith}
 use lib.ListN.{length, drop}
 use Rattle.perm.specs.Lists.{same}
-use Rattle.cursor.proofs.Scans.{same-next, same-stops, same-ends}
+use Rattle.perm.proofs.Same.{same-next, same-stops, same-ends}
 use Rattle.cursor.proofs.equal.Statement.{statement}
 use Rattle.cursor.proofs.equal.Tie as tie
 
@@ -32,7 +32,7 @@ returns c =
     let start = c .before .before .before in
     let l = sizes start in
     let i = c .before .before .loop .i in
-    sym (sym (c .before .before .loop .inv .1) ∙ same-stops (start .args .t1) (start .args .t2) i (omega arith) (omega arith) (c .if1 .taken))
+    sym (sym (c .before .before .loop .inv .1) ∙ same-stops (start .args .t1) (start .args .t2) i i (omega arith) (omega arith) (c .if1 .taken))
 
 add-i : tie.Need-add-i Inv-loop μ-loop
 add-i c = omega arith
@@ -45,13 +45,13 @@ loop-again c =
     let start = c .before .before .before in
     let l = sizes start in
     let i = c .before .before .loop .i in
-    (omega arith, sym (same-next (start .args .t1) (start .args .t2) i (omega arith) (omega arith) (c .if1 .left)) ∙ c .before .before .loop .inv .1)
+    (omega arith, sym (same-next (start .args .t1) (start .args .t2) i i (omega arith) (omega arith) (c .if1 .left)) ∙ c .before .before .loop .inv .1)
 
 returns-2 : tie.Need-returns-2 Inv-loop μ-loop
 returns-2 c =
     let start = c .before .before in
     let l = sizes start in
-    sym (same-ends (start .args .t1) (start .args .t2) (c .before .loop .i) (omega arith) (omega arith)) ∙ c .before .loop .inv .1
+    sym (same-ends (start .args .t1) (start .args .t2) (c .before .loop .i) (c .before .loop .i) (omega arith) (omega arith)) ∙ c .before .loop .inv .1
 
 pub equal-spec : {M : Type 1} → statement M
 equal-spec =

@@ -5,7 +5,8 @@ use Prim.Native.Nat.{ℕ}
 use native.Mathlib.Omega.{arith}
 use mathlib.Core.List.{List}
 use lib.ListN.{length}
-use Rattle.exchanges.specs.Pairs.{Pair, pairsTo, front}
+use Rattle.perm.specs.Pairs.{Pair, front}
+use Rattle.exchanges.specs.Pairs.{pairsTo}
 use Rattle.exchanges.specs.Between.{pairsBetween, checkLengths, checkContents}
 use Rattle.exchanges.proofs.Both.{Both, lengths-passed, both-passed}
 use Rattle.exchanges.proofs.Pairs.{pairs-few}

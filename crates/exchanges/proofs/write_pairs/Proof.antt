@@ -5,8 +5,10 @@ use native.Mathlib.Omega.{arith}
 use mathlib.Core.Path.{_≡_, refl, ap, _∙_}
 use borrow.Author.Needs.{needs}
 use lib.ListN.{length, getD, length-set}
-use Rattle.exchanges.specs.Pairs.{pairsTo, bytesOf, front}
-use Rattle.exchanges.proofs.Pairs.{pairs-fixed, pairs-moved, length-moved, pairs-number, pairs-room, length-front, front-step}
+use Rattle.perm.specs.Pairs.{bytesOf, front}
+use Rattle.exchanges.specs.Pairs.{pairsTo}
+use Rattle.perm.proofs.Pairs.{length-front, front-step}
+use Rattle.exchanges.proofs.Pairs.{pairs-fixed, pairs-moved, length-moved, pairs-number, pairs-room}
 use Rattle.exchanges.proofs.write_pairs.Statement.{statement}
 use Rattle.exchanges.proofs.write_pairs.Tie as tie
 

@@ -33,11 +33,11 @@ text-requires-2 c κs = search needs
 array-share-prefix-out : tie.Need-array-share-prefix-out
 array-share-prefix-out c = fits (c .before .before .before .before .before .before .before .between .ensures) .1
 
-slice-aggregate-print-pairs : tie.Need-slice-aggregate-print-pairs
-slice-aggregate-print-pairs c = sym (length-take-le _ _ (fits (c .before .before .before .before .before .before .before .before .between .ensures) .1))
+slice-aggregate-pairs : tie.Need-slice-aggregate-pairs
+slice-aggregate-pairs c = sym (length-take-le _ _ (fits (c .before .before .before .before .before .before .before .before .between .ensures) .1))
 
-print-pairs-requires : tie.Need-print-pairs-requires
-print-pairs-requires c κs = search needs
+pairs-requires : tie.Need-pairs-requires
+pairs-requires c κs = search needs
 
 slice-aggregate-text-3 : tie.Need-slice-aggregate-text-3
 slice-aggregate-text-3 c = search needs
@@ -61,8 +61,8 @@ print-exchanges-spec =
     slice-aggregate-text-2
     text-requires-2
     array-share-prefix-out
-    slice-aggregate-print-pairs
-    print-pairs-requires
+    slice-aggregate-pairs
+    pairs-requires
     slice-aggregate-text-3
     text-requires-3
     returns)

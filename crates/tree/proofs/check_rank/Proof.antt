@@ -3,7 +3,7 @@ use mathlib.Core.Path.{sym, _∙_}
 use borrow.Author.Needs.{needs}
 use Rattle.stirling.proofs.Refusals.{then-stops}
 use Rattle.perm.proofs.Refused.{next}
-use Rattle.tree.proofs.Checked.{permutation-passed}
+use Rattle.perm.proofs.Refused.{permutation-passed}
 use Rattle.tree.proofs.check_rank.Statement.{statement}
 use Rattle.tree.proofs.check_rank.Tie as tie
 

@@ -1,9 +1,9 @@
--- `pairs::print_pairs` is safe and ends. Assumes nothing.
+-- `print::pairs` is safe and ends. Assumes nothing.
 use Prim.Native.Nat.{_≤_, _-_}
 use lib.ListN.{length}
 use borrow.Author.Needs.{needs}
-use Rattle.pairs.proofs.print_pairs.Statement.{statement}
-use Rattle.pairs.proofs.print_pairs.Tie as tie
+use Rattle.print.proofs.pairs.Statement.{statement}
+use Rattle.print.proofs.pairs.Tie as tie
 
 abbrev Inv-loop : tie.InvT-loop
 Inv-loop bytes at₀ t3 at = at ≤ length bytes
@@ -53,8 +53,8 @@ loop-again c = search needs
 returns-2 : tie.Need-returns-2 Inv-loop μ-loop
 returns-2 c = search needs
 
-pub print-pairs-spec : {M : Type 1} → statement M
-print-pairs-spec =
+pub pairs-spec : {M : Type 1} → statement M
+pairs-spec =
     tie.close
     (tie.spec
     Inv-loop
