@@ -248,46 +248,62 @@ fn main() {
             })
             .collect();
 
-        let ours = nanoseconds(|i| drop(black_box(osierdrum::unrank(n, k, black_box(places[i]), &mut out))));
-        let theirs = nanoseconds(|i| drop(black_box(reference.unrank(n, k, black_box(places[i]), &mut out))));
+        let ours = nanoseconds(|i| _ = black_box(osierdrum::unrank(n, k, black_box(places[i]), &mut out)));
+        let theirs = nanoseconds(|i| _ = black_box(reference.unrank(n, k, black_box(places[i]), &mut out)));
         line("unrank", n, ours, theirs);
 
-        let ours = nanoseconds(|i| drop(black_box(osierdrum::rank(black_box(&made[i])))));
-        let theirs = nanoseconds(|i| drop(black_box(reference.rank(black_box(&made[i])))));
+        let ours = nanoseconds(|i| _ = black_box(osierdrum::rank(black_box(&made[i]))));
+        let theirs = nanoseconds(|i| _ = black_box(reference.rank(black_box(&made[i]))));
         line("rank", n, ours, theirs);
 
         let mut levels = [Level::default(); 20];
-        let ours = nanoseconds(|i| drop(black_box(osierdrum::explain_into(black_box(&made[i]), &mut levels))));
-        let theirs = nanoseconds(|i| drop(black_box(reference.explain(black_box(&made[i]), &mut levels))));
+        let ours = nanoseconds(|i| _ = black_box(osierdrum::explain_into(black_box(&made[i]), &mut levels)));
+        let theirs = nanoseconds(|i| _ = black_box(reference.explain(black_box(&made[i]), &mut levels)));
         line("explain_into", n, ours, theirs);
 
         let mut pairs = [0u8; 38];
         let to = |i: usize| black_box(&made[(i + 1) % PLACES]);
-        let ours = nanoseconds(|i| drop(black_box(osierdrum::exchanges_into(black_box(&made[i]), to(i), &mut pairs))));
-        let theirs = nanoseconds(|i| drop(black_box(reference.exchanges(black_box(&made[i]), to(i), &mut pairs))));
+        let ours = nanoseconds(|i| _ = black_box(osierdrum::exchanges_into(black_box(&made[i]), to(i), &mut pairs)));
+        let theirs = nanoseconds(|i| _ = black_box(reference.exchanges(black_box(&made[i]), to(i), &mut pairs)));
         line("exchanges_into", n, ours, theirs);
+
+        let mut bytes = [0u8; 60];
+        let ours = nanoseconds(|i| _ = black_box(osierdrum::moves_into(black_box(&made[i]), &mut bytes)));
+        let theirs = nanoseconds(|i| _ = black_box(reference.moves(black_box(&made[i]), &mut bytes)));
+        line("moves_into", n, ours, theirs);
+
+        let short: Vec<Vec<u8>> =
+            made.iter().map(|row| osierdrum::moves(row).expect("a permutation").concat()).collect();
+        // 1,000 moves of a value to position 0 and back before them
+        let long: Vec<Vec<u8>> = short.iter().map(|list| [&[1, 0, 0, 1].repeat(500), &list[..]].concat()).collect();
+        for (name, lists) in [("check_moves", short), ("check_moves, long", long)] {
+            let list = |i: usize| black_box(&lists[i]);
+            let ours = nanoseconds(|i| _ = black_box(osierdrum::check_moves(black_box(&made[i]), list(i))));
+            let theirs = nanoseconds(|i| _ = black_box(reference.check_moves(black_box(&made[i]), list(i))));
+            line(name, n, ours, theirs);
+        }
 
         let m = count.min(1000);
         let mut page = vec![0u8; m as usize * size];
         let first: Vec<u64> = places.iter().map(|&place| place.min(count - m)).collect();
-        let ours = nanoseconds(|i| drop(black_box(osierdrum::rows(n, k, black_box(first[i]), m, 0, &mut page))));
-        let theirs = nanoseconds(|i| drop(black_box(reference.rows(n, k, black_box(first[i]), m, 0, &mut page))));
+        let ours = nanoseconds(|i| _ = black_box(osierdrum::rows(n, k, black_box(first[i]), m, 0, &mut page)));
+        let theirs = nanoseconds(|i| _ = black_box(reference.rows(n, k, black_box(first[i]), m, 0, &mut page)));
         line(&format!("rows of {m}"), n, ours, theirs);
 
-        let ours = nanoseconds(|i| drop(black_box(osierdrum::to_array(black_box(&made[i]), &mut out))));
-        let theirs = nanoseconds(|i| drop(black_box(reference.to_array(black_box(&made[i]), &mut out))));
+        let ours = nanoseconds(|i| _ = black_box(osierdrum::to_array(black_box(&made[i]), &mut out)));
+        let theirs = nanoseconds(|i| _ = black_box(reference.to_array(black_box(&made[i]), &mut out)));
         line("to_array", n, ours, theirs);
 
-        let ours = nanoseconds(|i| drop(black_box(osierdrum::from_array(black_box(&arrays[i]), &mut out))));
-        let theirs = nanoseconds(|i| drop(black_box(reference.from_array(black_box(&arrays[i]), &mut out))));
+        let ours = nanoseconds(|i| _ = black_box(osierdrum::from_array(black_box(&arrays[i]), &mut out)));
+        let theirs = nanoseconds(|i| _ = black_box(reference.from_array(black_box(&arrays[i]), &mut out)));
         line("from_array", n, ours, theirs);
 
-        let ours = nanoseconds(|i| drop(black_box(osierdrum::to_inversions(black_box(&made[i]), &mut out))));
-        let theirs = nanoseconds(|i| drop(black_box(reference.to_inversions(black_box(&made[i]), &mut out))));
+        let ours = nanoseconds(|i| _ = black_box(osierdrum::to_inversions(black_box(&made[i]), &mut out)));
+        let theirs = nanoseconds(|i| _ = black_box(reference.to_inversions(black_box(&made[i]), &mut out)));
         line("to_inversions", n, ours, theirs);
 
-        let ours = nanoseconds(|i| drop(black_box(osierdrum::from_inversions(black_box(&arrays[i]), &mut out))));
-        let theirs = nanoseconds(|i| drop(black_box(reference.from_inversions(black_box(&arrays[i]), &mut out))));
+        let ours = nanoseconds(|i| _ = black_box(osierdrum::from_inversions(black_box(&arrays[i]), &mut out)));
+        let theirs = nanoseconds(|i| _ = black_box(reference.from_inversions(black_box(&arrays[i]), &mut out)));
         line("from_inversions", n, ours, theirs);
 
         let pattern: Vec<Vec<u8>> = (0..PLACES).map(|i| freed(&mut random, &made[(i + 1) % PLACES], 10)).collect();

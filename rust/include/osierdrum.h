@@ -7,10 +7,10 @@
  *
  * Refusals: 0 none; 1 n is more than 20; 2 k is not 1 to n, or with n = 0 not 0; 3 place >= c(n,k), or in the list of
  * involutions or of Bell permutations >= their number; 4 m is not 1 to 1000, or more rows than are left; 5 a written
- * slice has not the length asked for, two permutations have unequal lengths, the pairs do not fit, or the wishes are not
- * n long; 6 a value, an entry or a wish out of range; 7 a value twice; 12 fewer levels lent than the permutation has
- * values; 14 no permutation from the place to the end meets the wishes; 15 a cycle longer than two; 16 a cycle that does
- * not fall from its highest number to its lowest. */
+ * slice has not the length asked for, two permutations have unequal lengths, the pairs or the moves do not fit, the wishes
+ * are not n long, or a list of moves has an odd length; 6 a value, an entry, a wish or a position of a move out of range;
+ * 7 a value twice; 12 fewer levels lent than the permutation has values; 14 no permutation from the place to the end meets
+ * the wishes; 15 a cycle longer than two; 16 a cycle that does not fall from its highest number to its lowest. */
 #ifndef OSIERDRUM_H
 #define OSIERDRUM_H
 
@@ -29,6 +29,8 @@ struct osierdrum_Explanation { uint8_t refusal; uint64_t k; uint64_t place; };
 struct osierdrum_Exchanges { uint8_t refusal; uint64_t count; uint64_t written; };
 struct osierdrum_Found { uint8_t refusal; uint64_t place; };
 struct osierdrum_Place { uint8_t refusal; uint64_t place; };
+struct osierdrum_Moves { uint8_t refusal; uint64_t count; };
+struct osierdrum_Checked { uint8_t refusal; uint8_t valid; };
 
 /* One size's part of an explanation: the letter 'a' to 'e' of the relation that gives the list at that size, whether the
  * list is read backward, the number from 0 in written order of the block that holds the permutation, and how many
@@ -110,6 +112,21 @@ uint8_t osierdrum_bell_unrank(uint64_t n, uint64_t place, uint8_t *out, size_t o
 
 /* The place of a Bell permutation in that list. Refusals 1, 6, 7, 16. */
 struct osierdrum_Place osierdrum_bell_rank(const uint8_t *s, size_t s_len);
+
+/* The moves from the identity to a permutation, two bytes a move, to the front of out; the bytes after them stay. The
+ * positions are 1 to n and position 0, which is empty before and after; a move takes a value from an occupied position,
+ * its first byte, to an empty one, its second. Cycle by cycle, for each cycle of two or more, rising by its least position
+ * a: first the value at a goes to position 0, then the empty position always takes the value that s has there, until the
+ * value at position 0 has left it. count is the number of moves, that of the values away from their own position plus
+ * that of such cycles and so at most 30; no valid list of moves from the identity to s is shorter. Refusals 1, 6, 7, 5
+ * for an out shorter than 2 * count. The two slices do not overlap. */
+struct osierdrum_Moves osierdrum_moves(const uint8_t *s, size_t s_len, uint8_t *out, size_t out_len);
+
+/* Whether a list of moves, of any length and whoever drew it up, leads from the identity to a permutation: valid is 1 if
+ * every move finds its first position occupied and its second empty and at the end s stands at the positions 1 to n and
+ * position 0 is empty, and 0 if not. moves_len counts bytes, two a move. Refusals 1, 5 for an odd moves_len, 6 for a value
+ * of s or for a position above n in the list, 7. */
+struct osierdrum_Checked osierdrum_check_moves(const uint8_t *s, size_t s_len, const uint8_t *moves, size_t moves_len);
 
 #ifdef __cplusplus
 }

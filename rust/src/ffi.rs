@@ -49,6 +49,18 @@ pub struct Place {
     pub place: u64,
 }
 
+#[repr(C)]
+pub struct Moves {
+    pub refusal: u8,
+    pub count: u64,
+}
+
+#[repr(C)]
+pub struct Checked {
+    pub refusal: u8,
+    pub valid: u8,
+}
+
 extern "C" {
     pub fn osierdrum_count(n: u64, k: u64) -> Count;
     pub fn osierdrum_unrank(n: u64, k: u64, place: u64, out: *mut u8, out_len: usize) -> u8;
@@ -82,4 +94,6 @@ extern "C" {
     pub fn osierdrum_bell_count(n: u64) -> Count;
     pub fn osierdrum_bell_unrank(n: u64, place: u64, out: *mut u8, out_len: usize) -> u8;
     pub fn osierdrum_bell_rank(s: *const u8, s_len: usize) -> Place;
+    pub fn osierdrum_moves(s: *const u8, s_len: usize, out: *mut u8, out_len: usize) -> Moves;
+    pub fn osierdrum_check_moves(s: *const u8, s_len: usize, moves: *const u8, moves_len: usize) -> Checked;
 }

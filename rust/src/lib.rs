@@ -9,6 +9,9 @@
 //! [`involution_unrank`]. So do the Bell permutations of n, each of whose cycles falls from its highest number to its
 //! lowest: see [`bell_unrank`].
 //!
+//! The moves that lead from the identity to a permutation, each of one value to an empty position, with one position to
+//! spare, are written by [`moves`]; a list of moves, whoever drew it up, is checked by [`check_moves`].
+//!
 //! The work is done by `libosierdrum.a`, whose every function is proved to meet its contract for all inputs. Nothing
 //! that is handed in can make a call read or write outside its slices or fail to return; what a call cannot serve it
 //! refuses with a [`Refusal`], and then nothing in a lent slice has changed.
@@ -49,9 +52,10 @@ pub enum Refusal {
     /// 4: the number of rows is not 1 to 1,000, or more than are left from the place on.
     Rows = 4,
     /// 5: a written slice has not the length that is asked for, the rows do not fit behind the offset, two permutations
-    /// have unequal lengths, the pairs do not fit, or the wishes are not n long.
+    /// have unequal lengths, the pairs or the moves do not fit, the wishes are not n long, or a list of moves has an odd
+    /// length.
     Lent = 5,
-    /// 6: a value is not 1 to n, entry i of an array is not 1 to i, or a wish is above n.
+    /// 6: a value is not 1 to n, entry i of an array is not 1 to i, or a wish or a position of a move is above n.
     Value = 6,
     /// 7: a value occurs twice.
     Twice = 7,
@@ -93,8 +97,11 @@ impl fmt::Display for Refusal {
             Refusal::Cycles => "k is not 1 to n, or with n = 0 not 0",
             Refusal::Place => "the place is past the end of the list",
             Refusal::Rows => "the number of rows is not 1 to 1000, or more than are left",
-            Refusal::Lent => "a lent slice has not the length that is asked for, or two permutations differ in length",
-            Refusal::Value => "a value or an entry is out of range",
+            Refusal::Lent => {
+                "a lent slice has not the length that is asked for, two permutations differ in length, or a list of \
+                 moves has an odd length"
+            }
+            Refusal::Value => "a value, an entry or a position is out of range",
             Refusal::Twice => "a value occurs twice",
             Refusal::Levels => "fewer levels were lent than the permutation has values",
             Refusal::Unmet => "no permutation from the place to the end meets the wishes",
@@ -571,4 +578,77 @@ pub fn bell_rank(s: &[u8]) -> Result<u64, Refusal> {
     // SAFETY: the pointer and the length are those of one slice.
     let answer = unsafe { ffi::osierdrum_bell_rank(s.as_ptr(), s.len()) };
     Refusal::checked(answer.refusal).map(|()| answer.place)
+}
+
+/// The moves that lead from the identity to the permutation `s`, each from a position to another; n is the slice's length.
+/// The positions are 1 to n, where value i stands at position i, and position 0, which is empty before and after. A move
+/// takes a value from an occupied position to an empty one.
+///
+/// The moves go cycle by cycle, for each cycle of two or more, rising by its least position a. First the value at a goes
+/// to position 0; then the empty position always takes the value that `s` has there, until the value at position 0 has
+/// left it. That is one move more than the cycle has values. So the number of moves is that of the values away from their
+/// own position plus that of such cycles, at most 30; the identity has none. No valid list of moves from the identity to
+/// `s` is shorter.
+///
+/// Refusals, in this order: [`Refusal::Size`], [`Refusal::Value`], [`Refusal::Twice`].
+///
+/// ```
+/// let s = [3, 4, 1, 2];
+/// let list = osierdrum::moves(&s)?;
+/// assert_eq!(list, [[1, 0], [3, 1], [0, 3], [2, 0], [4, 2], [0, 4]]);
+/// let mut standing = [0, 1, 2, 3, 4]; // position 0 is empty
+/// for [from, to] in list {
+///     standing.swap(usize::from(from), usize::from(to));
+/// }
+/// assert_eq!(standing, [0, 3, 4, 1, 2]);
+/// # Ok::<(), osierdrum::Refusal>(())
+/// ```
+pub fn moves(s: &[u8]) -> Result<Vec<[u8; 2]>, Refusal> {
+    // room for 30 moves, so that it never is too short
+    let mut bytes = [0; 2 * 30];
+    let count = moves_into(s, &mut bytes)?;
+    Ok(bytes.chunks_exact(2).take(count as usize).map(|made| [made[0], made[1]]).collect())
+}
+
+/// As [`moves`], with the moves written to the front of `out`, two bytes a move, and their number as the result; the bytes
+/// after them stay.
+///
+/// Refusals, in this order: [`Refusal::Size`], [`Refusal::Value`], [`Refusal::Twice`], [`Refusal::Lent`] for an `out` that
+/// is shorter than the moves.
+///
+/// ```
+/// use osierdrum::{moves_into, Refusal};
+/// let mut bytes = [9; 7];
+/// assert_eq!(moves_into(&[2, 1], &mut bytes), Ok(3));
+/// assert_eq!(bytes, [1, 0, 2, 1, 0, 2, 9]); // the last as it was
+/// assert_eq!(moves_into(&[2, 1], &mut bytes[..5]), Err(Refusal::Lent));
+/// assert_eq!(moves_into(&[1, 2], &mut []), Ok(0));
+/// ```
+pub fn moves_into(s: &[u8], out: &mut [u8]) -> Result<u64, Refusal> {
+    // SAFETY: each pointer and length are those of one slice, and the written one is ours alone.
+    let answer = unsafe { ffi::osierdrum_moves(s.as_ptr(), s.len(), out.as_mut_ptr(), out.len()) };
+    Refusal::checked(answer.refusal).map(|()| answer.count)
+}
+
+/// Whether a list of moves, whoever drew it up, leads from the identity to the permutation `s`: every move finds its first
+/// position occupied and its second empty, and at the end `s` stands at the positions 1 to n and position 0 is empty. n is
+/// the length of `s`; a move is two bytes, as [`moves_into`] writes it, and there may be any number of them.
+///
+/// Refusals, in this order: [`Refusal::Size`], [`Refusal::Lent`] for a list of moves of odd length, [`Refusal::Value`] for
+/// a value of `s` or for a position above n in the list, [`Refusal::Twice`].
+///
+/// ```
+/// use osierdrum::{check_moves, Refusal};
+/// assert_eq!(check_moves(&[2, 1], &[1, 0, 2, 1, 0, 2]), Ok(true));
+/// assert_eq!(check_moves(&[2, 1], &[2, 0, 1, 2, 0, 1]), Ok(true)); // another way, not the one that is written
+/// assert_eq!(check_moves(&[2, 1], &[1, 2, 2, 1, 0, 2]), Ok(false)); // position 2 is occupied
+/// assert_eq!(check_moves(&[2, 1], &[1, 0, 2, 1]), Ok(false)); // 1 still stands at position 0
+/// assert_eq!(check_moves(&[1, 2], &[]), Ok(true)); // no moves, to the identity
+/// assert_eq!(check_moves(&[2, 1], &[1, 0, 2]), Err(Refusal::Lent));
+/// assert_eq!(check_moves(&[2, 1], &[1, 3]), Err(Refusal::Value));
+/// ```
+pub fn check_moves(s: &[u8], moves: &[u8]) -> Result<bool, Refusal> {
+    // SAFETY: each pointer and length are those of one slice.
+    let answer = unsafe { ffi::osierdrum_check_moves(s.as_ptr(), s.len(), moves.as_ptr(), moves.len()) };
+    Refusal::checked(answer.refusal).map(|()| answer.valid == 1)
 }

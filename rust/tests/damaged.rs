@@ -1,12 +1,12 @@
 //! Numbers, slices and offsets that nobody should hand in, in every call, with guard bytes around what is lent: the refusal is document 01's, and
 //! no other byte changes. The same for `explain` stands in `explain.rs`, and for `exchanges` in `exchanges.rs`; more for `find` stands in `find.rs`.
-//! More for the involutions and the Bell permutations stands in `trees.rs`.
+//! More for the involutions and the Bell permutations stands in `trees.rs`, and for the moves in `moves.rs`.
 
 mod reference;
 
 use osierdrum::{
-    bell_count, bell_rank, bell_unrank, count, find, from_array, from_inversions, involution_count, involution_rank,
-    involution_unrank, rank, rows, to_array, to_inversions, unrank, Refusal,
+    bell_count, bell_rank, bell_unrank, check_moves, count, find, from_array, from_inversions, involution_count,
+    involution_rank, involution_unrank, moves, moves_into, rank, rows, to_array, to_inversions, unrank, Refusal,
 };
 use reference::{
     damaged, short_slices,
@@ -74,6 +74,13 @@ type Rank = fn(&[u8]) -> Result<u64, Refusal>;
 fn ranked_in(reference: &Tree, rank: Rank, s: &[u8]) -> u8 {
     let given = rank(s).map_err(|refusal| refusal as u8);
     assert_eq!(given, reference.rank(s), "{s:?}");
+    given.err().unwrap_or(0)
+}
+
+/// A list of moves to a slice is valid or not, or refused, as the reference has it. Gives the refusal.
+fn listed(reference: &Reference, s: &[u8], list: &[u8]) -> u8 {
+    let given = check_moves(s, list).map_err(|refusal| refusal as u8);
+    assert_eq!(given, reference.check_moves(s, list), "{s:?} by {list:?}");
     given.err().unwrap_or(0)
 }
 
@@ -238,6 +245,43 @@ fn slices_in_rank_arrays_and_inversions() {
     }
 }
 
+/// Slices near a permutation, and for each a list near that of the moves to it, or any bytes.
+#[test]
+fn slices_in_moves() {
+    let reference = Reference::new();
+    let mut random = Random(139);
+    let mut met = [[0u32; 8]; 2];
+    for _ in 0..60_000 {
+        let n = random.below(22);
+        let s = damaged(&mut random, n as usize);
+        let size = random.below(64) as usize;
+        met[0][usize::from(same(size, |out| moves_into(&s, out), |out| reference.moves(&s, out)))] += 1;
+        let any = |random: &mut Random| (0..size).map(|_| random.below(n + 2) as u8).collect();
+        let mut list: Vec<u8> = moves(&s).map_or_else(|_| any(&mut random), |made| made.concat());
+        for _ in 0..random.below(3) {
+            let at = random.below(list.len() as u64 + 1) as usize;
+            match random.below(4) {
+                0 => list.insert(at, random.below(n + 1) as u8),
+                1 => list.truncate(at),
+                2 => list.extend([0, random.below(n + 1) as u8]),
+                _ => list.extend(random.next().to_le_bytes()),
+            }
+        }
+        met[1][usize::from(listed(&reference, &s, &list))] += 1;
+    }
+    assert!(met.iter().all(|call| [0, 1, 5, 6, 7].iter().all(|&refusal| call[refusal] > 1_000)), "{met:?}");
+}
+
+#[test]
+fn every_two_short_slices_in_check_moves() {
+    let reference = Reference::new();
+    for s in short_slices().filter(|s| s.len() <= 3) {
+        for list in short_slices() {
+            listed(&reference, &s, &list);
+        }
+    }
+}
+
 #[test]
 fn every_short_slice() {
     let reference = Reference::new();
@@ -250,6 +294,9 @@ fn every_short_slice() {
         same(s.len(), |out| from_array(&s, out), |out| reference.from_array(&s, out));
         same(s.len(), |out| to_inversions(&s, out), |out| reference.to_inversions(&s, out));
         same(s.len(), |out| from_inversions(&s, out), |out| reference.from_inversions(&s, out));
+        for size in 0..=12 {
+            same(size, |out| moves_into(&s, out), |out| reference.moves(&s, out));
+        }
         let n = s.len() as u64;
         for (k, place) in (0..=n + 1).flat_map(|k| (0..12).map(move |place| (k, place))) {
             same(s.len(), |out| find(n, k, place, &s, out), |out| reference.find(n, k, place, &s, out));
@@ -266,6 +313,14 @@ fn all_values_before_any_repetition() {
     assert_eq!(to_inversions(&[2, 2, 0], &mut [0; 3]), Err(Refusal::Value));
     assert_eq!(to_inversions(&[2, 2, 0], &mut [0; 4]), Err(Refusal::Lent));
     assert_eq!(to_inversions(&[2, 2, 1], &mut [0; 3]), Err(Refusal::Twice));
+    for size in [0, 1, 60] {
+        assert_eq!(moves_into(&[2, 2, 0], &mut vec![0; size]), Err(Refusal::Value));
+        assert_eq!(moves_into(&[2, 2, 1], &mut vec![0; size]), Err(Refusal::Twice));
+    }
+    assert_eq!(check_moves(&[2, 2, 0], &[1, 0]), Err(Refusal::Value));
+    assert_eq!(check_moves(&[2, 2, 0], &[1, 0, 9]), Err(Refusal::Lent));
+    assert_eq!(check_moves(&[2, 2, 1], &[1, 4]), Err(Refusal::Value));
+    assert_eq!(check_moves(&[2, 2, 1], &[1, 3]), Err(Refusal::Twice));
     for rank in [involution_rank, bell_rank] {
         assert_eq!(rank(&[1, 1, 9]), Err(Refusal::Value));
         assert_eq!(rank(&[2, 2, 0]), Err(Refusal::Value));

@@ -2,9 +2,9 @@
 //! reference; the other tests compare n = 0 with the reference among the rest.
 
 use osierdrum::{
-    bell_count, bell_rank, bell_unrank, count, exchanges, exchanges_into, explain, explain_into, find, from_array,
-    from_inversions, involution_count, involution_rank, involution_unrank, rank, rows, to_array, to_inversions, unrank,
-    Exchanges, Explained, Explanation, Level, Rank, Refusal,
+    bell_count, bell_rank, bell_unrank, check_moves, count, exchanges, exchanges_into, explain, explain_into, find,
+    from_array, from_inversions, involution_count, involution_rank, involution_unrank, moves, moves_into, rank, rows,
+    to_array, to_inversions, unrank, Exchanges, Explained, Explanation, Level, Rank, Refusal,
 };
 
 /// A call on a lent slice of `size` bytes, with guards: its result. No byte changes, whether it is served or refused.
@@ -162,6 +162,43 @@ fn the_involution_of_nothing() {
 #[test]
 fn the_bell_permutation_of_nothing() {
     a_tree_of_nothing(bell_count, bell_unrank, bell_rank);
+}
+
+#[test]
+fn moves_to_nothing() {
+    assert_eq!(moves(&[]), Ok(vec![]));
+    for size in [0, 1, 2] {
+        for s in [&[][..], &[1]] {
+            assert_eq!(lent(size, |out| moves_into(s, out)), Ok(0));
+        }
+        for value in [0, 2, 255] {
+            assert_eq!(lent(size, |out| moves_into(&[value], out)), Err(Refusal::Value));
+        }
+        assert_eq!(lent(size, |out| moves_into(&[0; 21], out)), Err(Refusal::Size));
+    }
+}
+
+#[test]
+fn moves_of_nothing() {
+    assert_eq!(check_moves(&[], &[]), Ok(true));
+    // position 0 is there, and empty
+    for count in 1..=3 {
+        assert_eq!(check_moves(&[], &vec![0; 2 * count]), Ok(false));
+    }
+    for list in [[0, 1], [1, 0], [1, 1], [0, 255]] {
+        assert_eq!(check_moves(&[], &list), Err(Refusal::Value));
+    }
+    for list in [&[0][..], &[1], &[0; 3], &[255; 301]] {
+        assert_eq!(check_moves(&[], list), Err(Refusal::Lent));
+        assert_eq!(check_moves(&[0], list), Err(Refusal::Lent));
+        assert_eq!(check_moves(&[0; 21], list), Err(Refusal::Size));
+    }
+    assert_eq!(check_moves(&[0], &[]), Err(Refusal::Value));
+    assert_eq!(check_moves(&[1], &[]), Ok(true));
+    assert_eq!(check_moves(&[1], &[1, 0]), Ok(false));
+    assert_eq!(check_moves(&[1], &[1, 0, 0, 1]), Ok(true));
+    assert_eq!(check_moves(&[1], &[0, 1, 1, 0]), Ok(false));
+    assert_eq!(check_moves(&[1], &[1, 2]), Err(Refusal::Value));
 }
 
 #[test]

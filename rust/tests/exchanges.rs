@@ -227,7 +227,8 @@ fn refusals_by_name() {
     assert_eq!(exchanges(&[3, 1, 2], &[2, 1, 4]), Err(Refusal::Value));
     assert_eq!(exchanges(&[3, 1, 2], &[2, 1, 2]), Err(Refusal::Twice));
     assert_eq!(exchanges_into(&[3, 1, 2], &[2, 3, 1], &mut [0; 3]), Err(Refusal::Lent));
-    let why = "refused 5: a lent slice has not the length that is asked for, or two permutations differ in length";
+    let why = "refused 5: a lent slice has not the length that is asked for, two permutations differ in length, or a \
+               list of moves has an odd length";
     assert_eq!(Refusal::Lent.to_string(), why);
 }
 

@@ -9,7 +9,7 @@ mod reference;
 mod ffi;
 
 use osierdrum::{rank, to_array, Level, Rank};
-use reference::{list, short_slices, Reference};
+use reference::{beside, list, short_slices, Reference};
 
 /// The number that both calls report, and the fixed entries of the array.
 fn reported(s: &[u8]) -> (u64, u64) {
@@ -99,9 +99,4 @@ fn zeros_beside_a_refusal() {
     }
     assert!([0, 1, 6, 7].iter().all(|&refusal| met[0][refusal] > 0), "{met:?}");
     assert!([0, 1, 5, 6, 7].iter().all(|&refusal| met[1][refusal] > 0), "{met:?}");
-}
-
-/// The refusal, 0 for none, and the rest of the result, zeros beside a refusal.
-fn beside<T: Default>(result: Result<T, u8>) -> (u8, T) {
-    result.map_or_else(|refusal| (refusal, T::default()), |rest| (0, rest))
 }

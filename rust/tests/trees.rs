@@ -16,9 +16,9 @@ use osierdrum::{
     bell_count, bell_rank, bell_unrank, involution_count, involution_rank, involution_unrank, Level, Refusal,
 };
 use reference::{
-    shuffled,
+    beside, each_set, permutations, shuffled,
     tree::{self, Kind, Row, Rule, Tree},
-    Random,
+    Fault, Random,
 };
 use std::collections::HashSet;
 
@@ -177,11 +177,6 @@ impl List {
     }
 }
 
-/// The refusal, 0 for none, and the number, 0 beside a refusal.
-fn beside(result: Result<u64, u8>) -> (u8, u64) {
-    result.map_or_else(|refusal| (refusal, 0), |number| (0, number))
-}
-
 /// The digits of a permutation of four.
 fn digits(number: u16) -> Row {
     [1000, 100, 10, 1].map(|unit| (number / unit % 10) as u8).to_vec()
@@ -242,11 +237,6 @@ fn every_row_up_to_ten(list: &List) {
             before = path;
         }
     }
-}
-
-/// Every permutation of n.
-fn permutations(n: usize) -> impl Iterator<Item = Row> {
-    (n.min(1)..=n).flat_map(move |k| reference::list(n, k))
 }
 
 fn every_permutation_up_to_seven(list: &List) {
@@ -387,23 +377,6 @@ struct Asked {
     n: u64,
     place: u64,
     size: usize,
-}
-
-/// A change to what is handed in, and how the call is refused then.
-type Fault<'a, T> = (u8, &'a dyn Fn(&mut T));
-
-/// Every set of faults, made one after another in what is good, and the refusal of the last made. The faults go from the
-/// last refusal to the first, so that a change that undoes another comes before it in the order of refusals.
-fn each_set<T: Clone>(good: &T, faults: &[Fault<T>], check: impl Fn(&T, u8)) {
-    for set in 0..1 << faults.len() {
-        let mut made = good.clone();
-        let mut right = 0;
-        for (number, damage) in (0..).zip(faults).filter(|(i, _)| set >> i & 1 == 1).map(|(_, fault)| fault) {
-            damage(&mut made);
-            right = *number;
-        }
-        check(&made, right);
-    }
 }
 
 fn each_refusal_before_the_later_ones(list: &List) {

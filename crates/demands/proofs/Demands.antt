@@ -1,4 +1,4 @@
--- The request's demands 2 and 3 as theorems, and what document 02, b) to k), adds, to be read from top to bottom beside them. Each is a law of a crate below, stated
+-- The request's demands 2 and 3 as theorems, and what document 02, b) to l), adds, to be read from top to bottom beside them. Each is a law of a crate below, stated
 -- in full here so that nothing has to be looked up but the definitions in specs/. What demand 1 asks is met by the proofs of the functions themselves
 -- (docs/DEMANDS.md says how). Assumes nothing.
 use mathlib.Core.Path.{_≡_, _∙_, sym, ap}
@@ -18,7 +18,7 @@ use Rattle.perm.specs.Cycle.{cycles, follow}
 use Rattle.perm.specs.Array.{IsArray, IsArrayOf, product, position}
 use Rattle.perm.specs.declared.Array.{Array}
 use Rattle.perm.specs.Checks.{checkToArray, checkPermutation, ToArray}
-use Rattle.perm.specs.Pairs.{Pair, front, pairsIn}
+use Rattle.perm.specs.Pairs.{Pair, bytesOf, front, pairsIn}
 use Rattle.perm.proofs.Arrays.{product-permutation, has-array, one-array, cycles-product}
 use Rattle.perm.proofs.Apart as Apart
 use Rattle.perm.proofs.Cases as FixedPoints
@@ -89,6 +89,12 @@ use Rattle.tree.proofs.Numbers as Numbers
 use Rattle.tree.proofs.Checked.{rank-passed}
 use Rattle.tree.proofs.RoundTrip as Trips
 use Rattle.tree.proofs.Cases as Trees
+use Rattle.moves.specs.State.{home as homeState, after, IsPossible, LeadsTo}
+use Rattle.moves.specs.Written.{around, away, longCycles, HasValues, IsDrawn}
+use Rattle.moves.specs.Calls.{checkMoves, listOf, bytesCounted, checkList, verdictOf}
+use Rattle.moves.proofs.Total.{one-more}
+use Rattle.moves.proofs.Said as Moves
+use Rattle.moves.proofs.Cases as MoveCases
 use Rattle.cursor.specs.declared.Cursor.{Cursor}
 use Rattle.cursor.specs.declared.Opening.{Opening}
 use Rattle.cursor.specs.declared.Opening.the-variants.{Whole, Section}
@@ -545,3 +551,57 @@ only-listed = rank-passed
 -- the list for four that the document writes out, the others for few, and edges
 pub tree-cases : Trees.Table
 tree-cases = Trees.table
+
+-- ---- Document 02, l): moves by the spare position 0. `bytesCounted s before` is what the call for the moves to s writes to a buffer that held `before`, as many bytes as its
+-- answer counts moves, two a move
+
+-- the moves that are written are valid, and lead from the identity to s, position 0 empty before and after
+pub written-lead : (s before : List ℕ) → checkMoves s (length before) ≡ 0 → LeadsTo s (pairsIn (bytesCounted s before))
+written-lead = Moves.written-lead
+
+-- so the check says yes to them
+pub written-checked : (s before : List ℕ) → checkMoves s (length before) ≡ 0 → verdictOf s (bytesCounted s before) ≡ record { refusal = 0; valid = 1 }
+written-checked = Moves.written-checked
+
+-- each of them comes about as the document says, whatever those before it have done: the value at the least position of a cycle of two or more goes to position 0, or
+-- another position, which is empty, takes the value that s wants there
+pub as-drawn : (s before : List ℕ) → checkMoves s (length before) ≡ 0 → (earlier later : List Pair) (m : Pair)
+    → pairsIn (bytesCounted s before) ≡ earlier ++ (m ∷ later)
+    → IsPossible (after (homeState (length s)) earlier) m × IsDrawn s (after (homeState (length s)) earlier) m
+as-drawn = Moves.written-as-drawn
+
+-- the moves round a cycle are one more than it has values
+pub around-cycle : {s : List ℕ} → IsPermutation (length s) s → (a c : ℕ) → 1 ≤ a → a ≤ length s → HasValues s a c → length (around s a) ≡ suc c
+around-cycle = one-more
+
+-- the total in the result is the values away from their own position plus the cycles of two or more, and at most 30
+pub moves-total : (s before : List ℕ) → checkMoves s (length before) ≡ 0
+    → (listOf s (length before) .count ≡ away s + longCycles s) × (listOf s (length before) .count ≤ 30)
+moves-total s before z = (Moves.number s before z, Moves.number-few s before z)
+
+-- no valid list of moves from the identity to s, whoever drew it up, is shorter
+pub shortest-moves : (s before : List ℕ) → checkMoves s (length before) ≡ 0 → (ms : List Pair) → LeadsTo s ms → listOf s (length before) .count ≤ length ms
+shortest-moves = Moves.number-least
+
+-- the check says yes just if a list that is not refused is valid and leads to s, for every list
+pub yes-valid : (s list : List ℕ) → verdictOf s list .valid ≡ 1 → (checkList s list ≡ 0) × LeadsTo s (pairsIn list)
+yes-valid = Moves.yes-only
+
+pub valid-yes : (s list : List ℕ) → checkList s list ≡ 0 → LeadsTo s (pairsIn list) → verdictOf s list .valid ≡ 1
+valid-yes = Moves.says
+
+-- and otherwise no, which is 0
+pub else-no : (s list : List ℕ) → (verdictOf s list .valid ≡ 1 → ⊥) → verdictOf s list .valid ≡ 0
+else-no = Moves.says-no
+
+-- no to every list with a move from a position to itself
+pub itself-no : (s list : List ℕ) (earlier later : List Pair) (p : ℕ) → pairsIn list ≡ earlier ++ ((p, p) ∷ later) → verdictOf s list .valid ≡ 0
+itself-no = Moves.itself-no
+
+-- of a permutation that is taken no valid list is refused
+pub valid-taken : {s : List ℕ} → checkPermutation s ≡ 0 → (ms : List Pair) → LeadsTo s ms → verdictOf s (bytesOf ms) ≡ record { refusal = 0; valid = 1 }
+valid-taken = Moves.says-yes
+
+-- the document's example and others, and the order of the refusals
+pub move-cases : MoveCases.Table
+move-cases = MoveCases.table

@@ -3,6 +3,8 @@ use exchanges::Exchanges;
 use explain::Explanation;
 use explain::Level;
 use find::Found;
+use moves::Checked;
+use moves::Moves;
 use perm::Array;
 use tree::Kind;
 use tree::Place;
@@ -15,6 +17,7 @@ ghost use Rattle.exchanges.specs.Between.{Exchanged};
 ghost use Rattle.inversion.specs.Calls.{FromInversions, ToInversions};
 ghost use Rattle.find.specs.Find.{findOf, writtenBy};
 ghost use Rattle.tree.specs.Calls.{checkUnrank as checkListed, writtenBy as writtenListed, rankOf};
+ghost use Rattle.moves.specs.Calls.{listOf, writtenBy as writtenMoves, verdictOf};
 ghost use Rattle.osierdrum.specs.Exports.{counted, listCounted, standing};
 
 // A count, or a refusal with 0.
@@ -200,4 +203,23 @@ pub extern "C" fn osierdrum_bell_rank(s: &[u8]) -> Place
     ensures { λ r. ⌜ r ≡ rankOf Kind.Bell (now (s .entry)) ⌝ }
 {
     tree::rank(Kind::Bell, s)
+}
+
+// The moves by a spare position, 0, from the identity to a permutation, two bytes a move, to the front of `out`, and their number. Refusals 1, 6, 7, and last 5 for a
+// buffer shorter than the moves.
+#[no_mangle]
+pub extern "C" fn osierdrum_moves(s: &[u8], out: &mut [u8]) -> Moves
+    ensures answer { λ r. ⌜ r ≡ listOf (now (s .entry)) (length (now (out .entry))) ⌝ }
+    ensures moves { λ r. ⌜ now (out .exit) ≡ writtenMoves (now (s .entry)) (r .refusal) (now (out .entry)) ⌝ }
+{
+    moves::list(s, out)
+}
+
+// Whether a list of moves, begun from the identity, is valid and leads to a permutation, position 0 empty: 1 for yes, 0 for no. Refusals 1, 5 for a list of odd length, 6
+// for a value of the permutation or a position of the list, 7.
+#[no_mangle]
+pub extern "C" fn osierdrum_check_moves(s: &[u8], moves: &[u8]) -> Checked
+    ensures { λ r. ⌜ r ≡ verdictOf (now (s .entry)) (now (moves .entry)) ⌝ }
+{
+    moves::check(s, moves)
 }

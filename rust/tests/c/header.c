@@ -2,6 +2,15 @@
 #include "osierdrum.h"
 #include <string.h>
 
+/* Whether a call for moves, and a check of moves, answered so. */
+static int moves_are(struct osierdrum_Moves moves, uint8_t refusal, uint64_t count) {
+    return moves.refusal == refusal && moves.count == count;
+}
+
+static int check_is(struct osierdrum_Checked checked, uint8_t refusal, uint8_t valid) {
+    return checked.refusal == refusal && checked.valid == valid;
+}
+
 static int empty_list(void) {
     uint8_t byte = 7, lent[3] = {7, 7, 7};
     struct osierdrum_Count count = osierdrum_count(0, 0);
@@ -40,6 +49,16 @@ static int empty_list(void) {
         found = osierdrum_find(0, 0, 0, &byte, 1, lent + 1, len);
         if (found.refusal != 5 || found.place != 0) return 50;
     }
+
+    for (size_t len = 0; len <= 1; len++) {
+        if (!moves_are(osierdrum_moves(&byte, 0, lent + 1, len), 0, 0)) return 181;
+        if (!moves_are(osierdrum_moves(&byte, 1, lent + 1, len), 6, 0)) return 182;
+    }
+    if (!check_is(osierdrum_check_moves(&byte, 0, &byte, 0), 0, 1)) return 183;
+    if (!check_is(osierdrum_check_moves(&byte, 0, &byte, 1), 5, 0)) return 184;
+    if (!check_is(osierdrum_check_moves(&byte, 0, lent, 2), 6, 0)) return 185;
+    if (!check_is(osierdrum_check_moves(&byte, 0, (const uint8_t[]){0, 0}, 2), 0, 0)) return 186;
+    if (!check_is(osierdrum_check_moves(&byte, 1, &byte, 0), 6, 0)) return 187;
 
     for (size_t len = 0; len <= 1; len++) {
         uint8_t longer = len == 0 ? 0 : 5;
@@ -201,6 +220,32 @@ static int search(void) {
     return memcmp(row, (const uint8_t[]){99, 3, 5, 4, 1, 2, 99}, 7) == 0 ? 0 : 113;
 }
 
+static int moves(void) {
+    const uint8_t row[4] = {3, 2, 4, 1}, twice[4] = {3, 2, 4, 3}, outside[4] = {3, 3, 4, 5}, wide[21] = {0};
+    uint8_t list[11] = {99, 99, 99, 99, 99, 99, 99, 99, 99, 99, 99};
+
+    if (!moves_are(osierdrum_moves(wide, sizeof wide, list + 1, 7), 1, 0)) return 161;
+    if (!moves_are(osierdrum_moves(outside, sizeof outside, list + 1, 7), 6, 0)) return 162;
+    if (!moves_are(osierdrum_moves(twice, sizeof twice, list + 1, 7), 7, 0)) return 163;
+    if (!moves_are(osierdrum_moves(row, sizeof row, list + 1, 7), 5, 0)) return 164;
+    if (!moves_are(osierdrum_moves((const uint8_t[]){1, 2, 3, 4}, 4, list + 1, 0), 0, 0)) return 165;
+    if (memcmp(list, (const uint8_t[]){99, 99, 99, 99, 99, 99, 99, 99, 99, 99, 99}, 11) != 0) return 166;
+
+    if (!moves_are(osierdrum_moves(row, sizeof row, list + 1, 9), 0, 4)) return 167;
+    if (memcmp(list, (const uint8_t[]){99, 1, 0, 3, 1, 4, 3, 0, 4, 99, 99}, 11) != 0) return 168;
+
+    if (!check_is(osierdrum_check_moves(row, sizeof row, list + 1, 8), 0, 1)) return 169;
+    /* the value 1 still at position 0; another end; position 3 is occupied */
+    if (!check_is(osierdrum_check_moves(row, sizeof row, list + 1, 6), 0, 0)) return 170;
+    if (!check_is(osierdrum_check_moves((const uint8_t[]){4, 2, 1, 3}, 4, list + 1, 8), 0, 0)) return 171;
+    if (!check_is(osierdrum_check_moves(row, sizeof row, (const uint8_t[]){1, 3, 3, 1}, 4), 0, 0)) return 172;
+    if (!check_is(osierdrum_check_moves(wide, sizeof wide, list + 1, 9), 1, 0)) return 173;
+    if (!check_is(osierdrum_check_moves(outside, sizeof outside, list + 1, 9), 5, 0)) return 174;
+    if (!check_is(osierdrum_check_moves(outside, sizeof outside, list + 1, 8), 6, 0)) return 175;
+    if (!check_is(osierdrum_check_moves(twice, sizeof twice, list + 1, 10), 6, 0)) return 176;
+    return check_is(osierdrum_check_moves(twice, sizeof twice, list + 1, 8), 7, 0) ? 0 : 177;
+}
+
 /* A list that is a tree: its calls, its lengths for 20 and 4, its rows for 4, and the refusal of a permutation that is
  * not in it. */
 struct tree {
@@ -312,6 +357,7 @@ int main(void) {
     if (wrong == 0) wrong = fixed_points();
     if (wrong == 0) wrong = inversions();
     if (wrong == 0) wrong = search();
+    if (wrong == 0) wrong = moves();
     if (wrong == 0) wrong = each_tree(rows_of_a_tree);
     if (wrong == 0) wrong = each_tree(empty_tree);
     return wrong != 0 ? wrong : empty_list();

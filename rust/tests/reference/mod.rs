@@ -5,6 +5,7 @@
 #![allow(dead_code)]
 
 mod find;
+pub mod moves;
 pub mod relations;
 pub mod tree;
 
@@ -150,6 +151,11 @@ pub fn list(n: usize, k: usize) -> Vec<Vec<u8>> {
     let mut rows = Vec::new();
     Sigma::identity().generate(n, n, k, true, &mut |row| rows.push(row.to_vec()));
     rows
+}
+
+/// Every permutation of n.
+pub fn permutations(n: usize) -> impl Iterator<Item = Vec<u8>> {
+    (n.min(1)..=n).flat_map(move |k| list(n, k))
 }
 
 /// The calls with document 01's refusals.
@@ -505,4 +511,26 @@ pub fn damaged(random: &mut Random, n: usize) -> Vec<u8> {
 pub fn short_slices() -> impl Iterator<Item = Vec<u8>> {
     let slice = |n, code: u32| (0..n).map(|i| (code / 6u32.pow(i) % 6) as u8).collect();
     (0..=4u32).flat_map(move |n| (0..6u32.pow(n)).map(move |code| slice(n, code)))
+}
+
+/// The refusal, 0 for none, and the rest of the result, zeros beside a refusal.
+pub fn beside<T: Default>(result: Result<T, u8>) -> (u8, T) {
+    result.map_or_else(|refusal| (refusal, T::default()), |rest| (0, rest))
+}
+
+/// A change to what is handed in, and how the call is refused then.
+pub type Fault<'a, T> = (u8, &'a dyn Fn(&mut T));
+
+/// Every set of faults, made one after another in what is good, and the refusal of the last made. The faults go from the
+/// last refusal to the first, so that a change that undoes another comes before it in the order of refusals.
+pub fn each_set<T: Clone>(good: &T, faults: &[Fault<T>], check: impl Fn(&T, u8)) {
+    for set in 0..1 << faults.len() {
+        let mut made = good.clone();
+        let mut right = 0;
+        for (number, damage) in (0..).zip(faults).filter(|(i, _)| set >> i & 1 == 1).map(|(_, fault)| fault) {
+            damage(&mut made);
+            right = *number;
+        }
+        check(&made, right);
+    }
 }

@@ -30,7 +30,7 @@ pub fn every(_: &[u8], _: usize) -> bool {
 }
 
 /// The cycle of a position, followed from there until it closes.
-fn cycle(s: &[u8], from: usize) -> impl Iterator<Item = usize> + '_ {
+pub fn cycle(s: &[u8], from: usize) -> impl Iterator<Item = usize> + '_ {
     successors(Some(from), move |&at| Some(usize::from(s[at - 1])).filter(|&to| to != from))
 }
 

@@ -1,0 +1,16 @@
+pub mod Moving
+pub mod Leads
+pub mod Long
+pub mod OneCycle
+pub mod Gone
+pub mod Fewest
+pub mod Few
+pub mod Total
+pub mod Going
+pub mod Rounds
+pub mod Results
+pub mod Making
+pub mod Listed
+pub mod Judged
+pub mod Said
+pub mod Cases

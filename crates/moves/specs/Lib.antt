@@ -1,0 +1,4 @@
+pub mod State
+pub mod Written
+pub mod Round
+pub mod Calls
