@@ -1,4 +1,4 @@
--- The request's demands 2 and 3 as theorems, and what document 02, b) to l), adds, to be read from top to bottom beside them. Each is a law of a crate below, stated
+-- The request's demands 2 and 3 as theorems, and what document 02, b) to m), adds, to be read from top to bottom beside them. Each is a law of a crate below, stated
 -- in full here so that nothing has to be looked up but the definitions in specs/. What demand 1 asks is met by the proofs of the functions themselves
 -- (docs/DEMANDS.md says how). Assumes nothing.
 use mathlib.Core.Path.{_≡_, _∙_, sym, ap}
@@ -107,6 +107,17 @@ use Rattle.cursor.proofs.Undone.{undone, by-back, by-forward}
 use Rattle.cursor.proofs.Round as Round
 use Rattle.cursor.proofs.Sections as Sections
 use Rattle.cursor.proofs.Cases as Walks
+use Rattle.sheet.specs.declared.Grammar.{Grammar}
+use Rattle.sheet.specs.declared.Grammar.the-variants.{Current, Filed}
+use Rattle.sheet.specs.declared.Asked.the-variants.{Rows, Unreadable}
+use Rattle.sheet.specs.Asked.{askedIn, asked, askedFiled}
+use Rattle.sheet.specs.Sheet.{refusedLine, answerTo, answer}
+use Rattle.sheet.specs.Rewriting.{rewrittenTo, rewritten}
+use Rattle.sheet.specs.Form.{IsSheet, Plain}
+use Rattle.sheet.proofs.Outcome.{eleven-only, not-filed}
+use Rattle.sheet.proofs.Reader.{rows-read, reads, only}
+use Rattle.sheet.proofs.Rewriting as Rewriting
+use Rattle.sheet.proofs.Answers as SheetCases
 
 -- ---- Demand 2: the counts, the lists, the places and the transposition arrays equal those of relations (a) to (e), from place to permutation and back
 
@@ -605,3 +616,61 @@ valid-taken = Moves.says-yes
 -- the document's example and others, and the order of the refusals
 pub move-cases : MoveCases.Table
 move-cases = MoveCases.table
+
+-- ---- Document 02, m): leading zeros. `asked text` is what the reader of a sheet finds in a text, `askedFiled text` what it found before this request, by which filed sheets
+-- are read; `rewritten text` is what the program rewrite writes for a text, `answer text` what stablist writes
+
+-- what is written for an old sheet is read as the four numbers that were found in it, so it is not refused 11
+pub rewritten-asks : (text : List ℕ) (n k place m : ℕ) → askedFiled text ≡ Rows n k place m
+    → (asked (rewritten text) ≡ Rows n k place m) × (answer (rewritten text) ≡ refusedLine 11 → ⊥)
+rewritten-asks text n k place m e =
+    let asks = Rewriting.asks-alike Current text ∙ e in
+    (asks, λ refused. rows-read (sym (eleven-only (rewritten text) refused) ∙ asks))
+
+-- any other text is refused 11, and what is written for a text is answered as the text was before, whatever it is
+pub others-refused : (text : List ℕ) → askedFiled text ≡ Unreadable → rewritten text ≡ refusedLine 11
+others-refused text e = sym (not-filed text (sym e))
+
+pub rewritten-answer : (text : List ℕ) → answer (rewritten text) ≡ answerTo (askedFiled text)
+rewritten-answer = Rewriting.answers-alike
+
+-- two old sheets give equal bytes exactly when their four numbers are equal
+pub equal-bytes : (text other : List ℕ) (n k place m n′ k′ place′ m′ : ℕ) → askedFiled text ≡ Rows n k place m → askedFiled other ≡ Rows n′ k′ place′ m′
+    → rewritten text ≡ rewritten other → (n ≡ n′) × (k ≡ k′) × (place ≡ place′) × (m ≡ m′)
+equal-bytes text other n k place m n′ k′ place′ m′ e f bytes =
+    let asks : Rows n k place m ≡ Rows n′ k′ place′ m′ = sym e ∙ Rewriting.equal-bytes text other bytes ∙ f in
+    (cc, cc, cc, cc)
+
+pub equal-numbers : (text other : List ℕ) (n k place m : ℕ) → askedFiled text ≡ Rows n k place m → askedFiled other ≡ Rows n k place m → rewritten text ≡ rewritten other
+equal-numbers text other n k place m e f = ap rewrittenTo (e ∙ sym f)
+
+-- a text that the reader takes is its own rewriting, and rewriting twice is rewriting once
+pub own-rewriting : (text : List ℕ) (n k place m : ℕ) → asked text ≡ Rows n k place m → rewritten text ≡ text
+own-rewriting = Rewriting.own-rewriting
+
+pub rewritten-twice : (text : List ℕ) → rewritten (rewritten text) ≡ rewritten text
+rewritten-twice = Rewriting.twice
+
+-- each reader takes the texts of its form and no other: the header, four numbers of the grammar, single spaces between, each line ended by LF, nothing after
+pub sheet-taken : (g : Grammar) (text : List ℕ) (n k place m : ℕ) → IsSheet g text n k place m → askedIn g text ≡ Rows n k place m
+sheet-taken = reads
+
+pub only-sheets : (g : Grammar) (text : List ℕ) (n k place m : ℕ) → askedIn g text ≡ Rows n k place m → IsSheet g text n k place m
+only-sheets = only
+
+-- the reader takes a text exactly when the old one does, as the same numbers, and none of the four numbers, other than `0`, begins with 0
+pub plain-taken : {text : List ℕ} {n k place m : ℕ} (s : IsSheet Filed text n k place m) → Plain s → asked text ≡ Rows n k place m
+plain-taken = Rewriting.plain-taken
+
+pub taken-before : (text : List ℕ) (n k place m : ℕ) → asked text ≡ Rows n k place m → askedFiled text ≡ Rows n k place m
+taken-before = Rewriting.taken-before
+
+pub taken-plain : {text : List ℕ} {n k place m : ℕ} (s : IsSheet Filed text n k place m) → asked text ≡ Rows n k place m → Plain s
+taken-plain = Rewriting.taken-plain
+
+pub zeros-refused : {text : List ℕ} {n k place m : ℕ} (s : IsSheet Filed text n k place m) → (Plain s → ⊥) → answer text ≡ refusedLine 11
+zeros-refused = Rewriting.zeros-refused
+
+-- `0`, `00`, `04`, zeros that do not lead, 19 and 20 digits, numbers out of range, and texts that are no sheet
+pub sheet-cases : SheetCases.Table
+sheet-cases = SheetCases.table

@@ -10,9 +10,10 @@ use borrow.Author.Tests.{le-leb, lt-leb}
 use Rattle.perm.specs.Lists.{same}
 use Rattle.perm.proofs.Same.{same-true, same-false}
 use Rattle.sheet.specs.Text.{SPACE, LF, header}
-use Rattle.sheet.specs.Asked.{asked, askedLine}
+use Rattle.sheet.specs.Asked.{askedLine, askedIn}
 use Rattle.sheet.specs.Found.{found}
 use Rattle.sheet.specs.declared.Asked.the-variants.{Rows, Unreadable}
+use Rattle.sheet.specs.declared.Grammar.{Grammar}
 use Rattle.sheet.specs.declared.Found.the-variants.{Number, Nothing}
 use Rattle.sheet.proofs.Reading.{part, IsField, number-found, nothing-found}
 
@@ -28,80 +29,80 @@ unended text i h d =
     same-false (part text i) [] (λ e. d (omega (arith, ap length e, length-take (length text - i) (drop i text), length-drop i text)))
 
 -- no number n
-pub no-first : (line : List ℕ) → Nothing ≡ found SPACE line → Unreadable ≡ askedLine line
+pub no-first : (g : Grammar) (line : List ℕ) → Nothing ≡ found g SPACE line → Unreadable ≡ askedLine g line
 unfolding askedLine
-no-first line e = rw (nothing-found SPACE line e)
+no-first g line e = rw (nothing-found g SPACE line e)
 
 -- with a number n, what is left of the line
-module _ (line : List ℕ) {n after-n : ℕ} (found-n : Number n after-n ≡ found SPACE line) where
+module _ (g : Grammar) (line : List ℕ) {n after-n : ℕ} (found-n : Number n after-n ≡ found g SPACE line) where
   abbrev pub from-k : List ℕ
   from-k = part line after-n
 
-  first : IsField SPACE line n after-n
-  first = number-found SPACE line found-n
+  first : IsField g SPACE line n after-n
+  first = number-found g SPACE line found-n
 
   -- no number k
-  pub no-second : Nothing ≡ found SPACE from-k → Unreadable ≡ askedLine line
+  pub no-second : Nothing ≡ found g SPACE from-k → Unreadable ≡ askedLine g line
   unfolding askedLine
-  no-second e = rw (first .good, first .rest, nothing-found SPACE from-k e)
+  no-second e = rw (first .good, first .rest, nothing-found g SPACE from-k e)
 
-  module _ {k after-k : ℕ} (found-k : Number k after-k ≡ found SPACE from-k) where
+  module _ {k after-k : ℕ} (found-k : Number k after-k ≡ found g SPACE from-k) where
     abbrev pub from-place : List ℕ
     from-place = part from-k after-k
 
-    second : IsField SPACE from-k k after-k
-    second = number-found SPACE from-k found-k
+    second : IsField g SPACE from-k k after-k
+    second = number-found g SPACE from-k found-k
 
     -- no place
-    pub no-third : Nothing ≡ found SPACE from-place → Unreadable ≡ askedLine line
+    pub no-third : Nothing ≡ found g SPACE from-place → Unreadable ≡ askedLine g line
     unfolding askedLine
-    no-third e = rw (first .good, first .rest, second .good, second .rest, nothing-found SPACE from-place e)
+    no-third e = rw (first .good, first .rest, second .good, second .rest, nothing-found g SPACE from-place e)
 
-    module _ {place after-place : ℕ} (found-place : Number place after-place ≡ found SPACE from-place) where
+    module _ {place after-place : ℕ} (found-place : Number place after-place ≡ found g SPACE from-place) where
       abbrev pub from-m : List ℕ
       from-m = part from-place after-place
 
-      third : IsField SPACE from-place place after-place
-      third = number-found SPACE from-place found-place
+      third : IsField g SPACE from-place place after-place
+      third = number-found g SPACE from-place found-place
 
       -- no number m
-      pub no-fourth : Nothing ≡ found LF from-m → Unreadable ≡ askedLine line
+      pub no-fourth : Nothing ≡ found g LF from-m → Unreadable ≡ askedLine g line
       unfolding askedLine
       no-fourth e =
-          rw (first .good, first .rest, second .good, second .rest, third .good, third .rest, nothing-found LF from-m e)
+          rw (first .good, first .rest, second .good, second .rest, third .good, third .rest, nothing-found g LF from-m e)
 
-      module _ {m after-m : ℕ} (found-m : Number m after-m ≡ found LF from-m) where
-        fourth : IsField LF from-m m after-m
-        fourth = number-found LF from-m found-m
+      module _ {m after-m : ℕ} (found-m : Number m after-m ≡ found g LF from-m) where
+        fourth : IsField g LF from-m m after-m
+        fourth = number-found g LF from-m found-m
 
         -- something after the line
-        pub too-long : (after-m ≡ length from-m → ⊥) → Unreadable ≡ askedLine line
+        pub too-long : (after-m ≡ length from-m → ⊥) → Unreadable ≡ askedLine g line
         unfolding askedLine
         too-long other =
             let more = unended from-m after-m (fourth .inside) other in
             rw (first .good, first .rest, second .good, second .rest, third .good, third .rest, fourth .good, fourth .rest, more)
 
         -- four numbers and nothing after
-        pub four : after-m ≡ length from-m → Rows n k place m ≡ askedLine line
+        pub four : after-m ≡ length from-m → Rows n k place m ≡ askedLine g line
         unfolding askedLine
         four end =
             rw (first .good, first .rest, second .good, second .rest, third .good, third .rest, fourth .good, fourth .rest, ended from-m after-m end)
             (rw (first .value, second .value, third .value, fourth .value))
 
 -- a text that is too long
-pub asked-long : (text : List ℕ) → 4096 < length text → Unreadable ≡ asked text
-unfolding asked
-asked-long text h = rw (lt-leb (length text) 4096 h)
+pub asked-long : (g : Grammar) (text : List ℕ) → 4096 < length text → Unreadable ≡ askedIn g text
+unfolding askedIn
+asked-long g text h = rw (lt-leb (length text) 4096 h)
 
 -- a text that does not begin with the header
-pub asked-other : (text : List ℕ) → length text ≤ 4096 → same (take (length header) text) header ≡ false → Unreadable ≡ asked text
-unfolding asked
-asked-other text h e = rw (le-leb (length text) 4096 h, e)
+pub asked-other : (g : Grammar) (text : List ℕ) → length text ≤ 4096 → same (take (length header) text) header ≡ false → Unreadable ≡ askedIn g text
+unfolding askedIn
+asked-other g text h e = rw (le-leb (length text) 4096 h, e)
 
 -- the line after the header
-pub asked-line : (text : List ℕ) → length text ≤ 4096 → same (take (length header) text) header ≡ true → askedLine (part text 23) ≡ asked text
-unfolding asked
-asked-line text h e =
+pub asked-line : (g : Grammar) (text : List ℕ) → length text ≤ 4096 → same (take (length header) text) header ≡ true → askedLine g (part text 23) ≡ askedIn g text
+unfolding askedIn
+asked-line g text h e =
     rw (le-leb (length text) 4096 h, e, take-all (length text - 23) (drop 23 text) (rw length-drop (omega arith)))
 
 -- which a text with the header is long enough for

@@ -1,6 +1,6 @@
--- The answer to any text fits: how long a line of names, a row and a refusal are at most. From the laws of S(n,k): there are c(n,k) rows, and
+-- The answer to any text and its rewriting fit: how long a line of names, a row, a refusal and a sheet are at most. From the laws of S(n,k): there are c(n,k) rows, and
 -- each is a permutation of n. Assumes nothing.
-use Prim.Native.Nat.{ℕ, zero, suc, _+_, _*_, _≤_, _<_}
+use Prim.Native.Nat.{ℕ, zero, suc, _+_, _*_, _^_, _≤_, _<_}
 use native.Mathlib.Omega.{arith}
 use mathlib.Core.Path.{_≡_, refl, ap, _∙_}
 use mathlib.Core.List.{List, [], _∷_, _++_}
@@ -17,13 +17,17 @@ use Rattle.gray.proofs.Once.{length-S, complete}
 use Rattle.rank.specs.Place.{checkRowCount}
 use Rattle.rank.proofs.RowChecks.{row-count-passed}
 use Rattle.sheet.specs.Text.{LF, decimal}
-use Rattle.sheet.specs.Asked.{asked}
+use Rattle.sheet.specs.Asked.{asked, askedFiled}
 use Rattle.sheet.specs.Sheet.{names, nameLine, values, rowLines, refusedLine, answerTo, answer}
-use Rattle.sheet.specs.Written.{CAPACITY, rowLine}
+use Rattle.sheet.specs.Rewriting.{sheetOf, rewrittenTo, rewritten}
+use Rattle.sheet.specs.Written.{CAPACITY, REWRITTEN-CAPACITY, rowLine}
 use Rattle.sheet.specs.declared.Asked.{Asked}
 use Rattle.sheet.specs.declared.Asked.the-variants.{Rows, Unreadable}
+use Rattle.sheet.specs.declared.Grammar.the-variants.{Filed}
 use Rattle.sheet.proofs.Lines.{rows-next}
-use Rattle.sheet.proofs.Decimal.{length-digits, length-two}
+use Rattle.sheet.proofs.Decimal.{length-digits, length-decimal, length-two}
+use Rattle.sheet.proofs.Numbers.{number-below}
+use Rattle.sheet.proofs.Reader.{only}
 
 -- a name is a space, four letters and at most two digits
 length-names : (a n : ℕ) → a + n ≤ 100 → length (names (range a n)) ≤ n * 7
@@ -116,3 +120,20 @@ asked-fits (Rows n k place m) = by-check (checkRowCount n k place m) refl
 -- the answer to any text fits
 pub answer-fits : (text : List ℕ) → length (answer text) ≤ CAPACITY
 answer-fits text = asked-fits (asked text)
+
+-- a sheet with numbers below 10^19 is at most 103 bytes
+length-sheet : (n k place m : ℕ) → n < 10 ^ 19 → k < 10 ^ 19 → place < 10 ^ 19 → m < 10 ^ 19 → length (sheetOf n k place m) ≤ REWRITTEN-CAPACITY
+length-sheet n k place m a b c d =
+    simp length-append
+    (omega (arith, length-decimal n a, length-decimal k b, length-decimal place c, length-decimal m d))
+
+-- and so the rewriting of any text fits
+pub rewritten-fits : (text : List ℕ) → length (rewritten text) ≤ REWRITTEN-CAPACITY
+unfolding rewrittenTo
+rewritten-fits text = by-asked (askedFiled text) refl
+  where
+    by-asked : (asks : Asked) → askedFiled text ≡ asks → length (rewrittenTo asks) ≤ REWRITTEN-CAPACITY
+    by-asked Unreadable e = omega (arith, length-refused 11)
+    by-asked (Rows n k place m) e =
+        let s = only Filed text n k place m e in
+        length-sheet n k place m (number-below (s .writes-n)) (number-below (s .writes-k)) (number-below (s .writes-place)) (number-below (s .writes-m))

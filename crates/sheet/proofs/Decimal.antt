@@ -13,12 +13,12 @@ use Rattle.sheet.specs.Text.{valueFrom, digits, decimal}
 use Rattle.sheet.proofs.Tests.{below}
 
 -- a number below ten is one digit
-one : (most x : ℕ) → x < 10 → digits (suc most) x ≡ (48 + x) ∷ []
+pub one : (most x : ℕ) → x < 10 → digits (suc most) x ≡ (48 + x) ∷ []
 unfolding digits
 one most x h = rw (lt-ltb x 10 h)
 
 -- the last digit of a larger number stands after the digits of its tenth part
-last : (most x : ℕ) → 10 ≤ x → digits (suc most) x ≡ digits most (x / 10) ++ ((48 + x % 10) ∷ [])
+pub last : (most x : ℕ) → 10 ≤ x → digits (suc most) x ≡ digits most (x / 10) ++ ((48 + x % 10) ∷ [])
 unfolding digits
 last most x h = rw (le-ltb x 10 h)
 
@@ -59,6 +59,10 @@ length-digits (suc most) x =
     (λ (large : 10 ≤ x). rw (le-ltb x 10 large) (simp length-append (omega (arith, length-digits most (x / 10)))))
     (below x 10)
 
+-- a number below 10^19 has at most 19
+pub length-decimal : (x : ℕ) → x < 10 ^ 19 → length (decimal x) ≤ 19
+length-decimal x h = rw (enough 18 x h) (length-digits 19 x)
+
 -- a number below a hundred has at most two digits
 pub length-two : (x : ℕ) → x < 100 → length (decimal x) ≤ 2
 length-two x h =
@@ -71,7 +75,7 @@ length-two x h =
     (below x 10)
 
 -- one digit after others
-value-last : (v : ℕ) (ds : List ℕ) (d : ℕ) → valueFrom v (ds ++ (d ∷ [])) ≡ valueFrom v ds * 10 + (d - 48)
+pub value-last : (v : ℕ) (ds : List ℕ) (d : ℕ) → valueFrom v (ds ++ (d ∷ [])) ≡ valueFrom v ds * 10 + (d - 48)
 unfolding valueFrom
 value-last v [] d = refl
 value-last v (b ∷ ds) d = value-last (v * 10 + (b - 48)) ds d

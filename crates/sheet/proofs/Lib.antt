@@ -1,10 +1,13 @@
+pub mod Answers
 pub mod Example
 pub mod Tests
 pub mod Writing
 pub mod Decimal
 pub mod Reading
+pub mod Numbers
 pub mod AskedLine
 pub mod Lines
 pub mod Capacity
 pub mod Outcome
-pub mod Grammar
+pub mod Reader
+pub mod Rewriting

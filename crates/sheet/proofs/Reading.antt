@@ -5,18 +5,20 @@ use native.Mathlib.Numerals.{add-one}
 use native.Mathlib.Omega.{arith}
 use mathlib.Core.Logic.{⊎-elim}
 use mathlib.Core.Path.{_≡_, refl, sym, ap, _∙_}
-use mathlib.Core.Bool.{Bool, true, false, cond, false≢true}
+use mathlib.Core.Bool.{Bool, true, false, cond, not, false≢true, and-true as and-yes, and-false as and-no, and-not-self}
 use mathlib.Core.List.{List, [], _∷_, _++_}
-use lib.Dec.{lit<}
+use lib.Dec.{eqb, lit<}
 use lib.ListN.{length, take, drop, getD, length-drop, drop-of-length-le, List·getD-append}
-use lib.Seq.{drop-cons, take-all, take-nil, length-take-le}
-use borrow.Author.Tests.{eqb-true, eq-eqb}
-use Rattle.stirling.specs.Refusal.{within}
-use Rattle.stirling.proofs.Refusals.{and-true, within-holds, within-true}
+use lib.Seq.{drop-cons, take-all, take-nil, length-take-le, take-append-seam}
+use borrow.Author.Tests.{eqb-true, eq-eqb, not-true}
+use Rattle.stirling.proofs.Refusals.{and-true, within-true}
+use Rattle.perm.specs.Lists.{same}
 use Rattle.perm.proofs.Tally.{refuted}
-use Rattle.sheet.specs.Text.{isDigit, valueFrom}
-use Rattle.sheet.specs.Asked.{leading, begins, field}
+use Rattle.sheet.specs.Text.{ZERO, isDigit, valueFrom}
+use Rattle.sheet.specs.Asked.{leading, begins, isFiledNumber, leadingZero, isNumber, numberIn, field}
 use Rattle.sheet.specs.Found.{taken, found}
+use Rattle.sheet.specs.declared.Grammar.{Grammar}
+use Rattle.sheet.specs.declared.Grammar.the-variants.{Current, Filed}
 use Rattle.sheet.specs.declared.Taken.{Taken}
 use Rattle.sheet.specs.declared.Found.the-variants.{Number, Nothing}
 use Rattle.sheet.proofs.Tests.{below}
@@ -126,107 +128,139 @@ at-begins b text i e =
     (λ (h : length text ≤ i). absurd (false≢true (rw (drop-of-length-le text h) at e)))
     (below i (length text))
 
--- what a number with its end is: 1 to 19 digits, and the byte after them
-pub record Good (end : ℕ) (text : List ℕ) : Type 0 where
-  pub some : 1 ≤ length (leading text)
-  pub few : length (leading text) ≤ 19
+-- a number of the grammar is one of a filed sheet
+pub filed-too : (g : Grammar) (ds : List ℕ) → numberIn g ds ≡ true → isFiledNumber ds ≡ true
+filed-too Current ds e = and-true (isFiledNumber ds) (not (leadingZero ds)) e .0
+filed-too Filed ds e = e
+
+-- and one of the current grammar has no leading zero
+pub number-plain : (ds : List ℕ) → isNumber ds ≡ true → leadingZero ds ≡ false
+number-plain ds e = not-true (leadingZero ds) (and-true (isFiledNumber ds) (not (leadingZero ds)) e .1)
+
+-- where there is none, a number of a filed sheet is one of either grammar
+pub plain-number : (g : Grammar) (ds : List ℕ) → isFiledNumber ds ≡ true → leadingZero ds ≡ false → numberIn g ds ≡ true
+plain-number Current ds f z = rw (f, z)
+plain-number Filed ds f z = f
+
+-- a number has 1 to 19 digits
+pub number-size : (g : Grammar) (ds : List ℕ) → numberIn g ds ≡ true → (1 ≤ length ds) × (length ds ≤ 19)
+number-size g ds e = within-true 1 19 (length ds) (filed-too g ds e)
+
+-- one digit has no leading zero, and of several the first decides
+pub single : (ds : List ℕ) → length ds ≡ 1 → leadingZero ds ≡ false
+unfolding same
+single [] h = refl
+single (d ∷ []) h = rw and-yes (and-not-self (eqb d ZERO))
+single (d ∷ b ∷ ds) h = absurd (omega arith)
+
+pub several : (ds : List ℕ) → 2 ≤ length ds → leadingZero ds ≡ eqb (getD ds 0 0) ZERO
+unfolding same
+several [] h = absurd (omega arith)
+several (d ∷ []) h = absurd (omega arith)
+several (d ∷ b ∷ ds) h = rw (and-no (eqb d ZERO)) (and-yes (eqb d ZERO))
+
+-- what a number with its end is: its digits, and the byte after them
+pub record Good (g : Grammar) (end : ℕ) (text : List ℕ) : Type 0 where
+  pub right : numberIn g (leading text) ≡ true
   pub inside : length (leading text) < length text
   pub ended : getD text (length (leading text)) 0 ≡ end
 
 -- there the definition says so,
-pub good-holds : (end : ℕ) (text : List ℕ) → Good end text → field end text .good ≡ true
+pub good-holds : (g : Grammar) (end : ℕ) (text : List ℕ) → Good g end text → field g end text .good ≡ true
 unfolding field
-good-holds end text g =
-    rw (within-holds 1 19 (length (leading text)) (g .some) (g .few), begins-at end text (length (leading text)) (g .inside) (g .ended))
+good-holds g end text h = rw (h .right, begins-at end text (length (leading text)) (h .inside) (h .ended))
 
 -- and only there
-pub holds-good : (end : ℕ) (text : List ℕ) → field end text .good ≡ true → Good end text
+pub holds-good : (g : Grammar) (end : ℕ) (text : List ℕ) → field g end text .good ≡ true → Good g end text
 unfolding field
-holds-good end text e =
-    let (w, b) = and-true (within 1 19 (length (leading text))) (begins end (drop (length (leading text)) text)) e in
-    let (l, u) = within-true 1 19 (length (leading text)) w in
-    let (h, g) = at-begins end text (length (leading text)) b in
-    record { some = l; few = u; inside = h; ended = g }
+holds-good g end text e =
+    let (r, b) = and-true (numberIn g (leading text)) (begins end (drop (length (leading text)) text)) e in
+    let (h, l) = at-begins end text (length (leading text)) b in
+    record { right = r; inside = h; ended = l }
 
 -- its value and what stands after it
-pub field-value : (end : ℕ) (text : List ℕ) → field end text .value ≡ valueFrom 0 (leading text)
+pub field-value : (g : Grammar) (end : ℕ) (text : List ℕ) → field g end text .value ≡ valueFrom 0 (leading text)
 unfolding field
-field-value end text = refl
+field-value g end text = refl
 
-pub field-rest : (end : ℕ) (text : List ℕ) → field end text .rest ≡ drop (length (leading text) + 1) text
+pub field-rest : (g : Grammar) (end : ℕ) (text : List ℕ) → field g end text .rest ≡ drop (length (leading text) + 1) text
 unfolding field
-field-rest end text = refl
+field-rest g end text = refl
 
 -- how many digits are taken of a text
 abbrev pub count : List ℕ → ℕ
 count text = length (take 19 (leading text))
 
--- where digits are taken and the byte that ends a number stands after them, no digit was left: the text begins with a number
-good-taken : (end : ℕ) (text : List ℕ) → isDigit end ≡ false → 1 ≤ count text → count text < length text → getD text (count text) 0 ≡ end
-    → (take 19 (leading text) ≡ leading text) × Good end text
-good-taken end text d l h e = ⊎-elim many few (below 19 (length (leading text)))
+-- where digits are taken and the byte that ends a number stands after them, no digit was left: they are all the digits that the text begins with
+pub all-taken : (end : ℕ) (text : List ℕ) → isDigit end ≡ false → 1 ≤ count text → count text < length text → getD text (count text) 0 ≡ end
+    → take 19 (leading text) ≡ leading text
+all-taken end text d l h e = ⊎-elim many few (below 19 (length (leading text)))
   where
-    many : 19 < length (leading text) → (take 19 (leading text) ≡ leading text) × Good end text
+    many : 19 < length (leading text) → take 19 (leading text) ≡ leading text
     many m =
         let c : count text ≡ 19 = length-take-le 19 (leading text) (omega arith) in
         let digit : isDigit end ≡ true = rw (sym e, c) (digit-at text 19 m) in
         absurd (false≢true (sym d ∙ digit))
 
-    few : length (leading text) ≤ 19 → (take 19 (leading text) ≡ leading text) × Good end text
-    few m =
-        let t : take 19 (leading text) ≡ leading text = take-all 19 (leading text) m in
-        let c : count text ≡ length (leading text) = ap length t in
-        (t, record { some = omega arith; few = m; inside = omega arith; ended = rw c at e })
+    few : length (leading text) ≤ 19 → take 19 (leading text) ≡ leading text
+    few m = take-all 19 (leading text) m
 
--- where 1 to 19 digits are taken and the byte that ends them stands after them, there is such a number,
-pub found-number : (end : ℕ) (text : List ℕ) → isDigit end ≡ false → 1 ≤ count text → count text < length text → getD text (count text) 0 ≡ end
-    → found end text ≡ Number (valueFrom 0 (take 19 (leading text))) (count text + 1)
-found-number end text d l h e =
-    let (t, g) = good-taken end text d l h e in
-    rw (good-holds end text g, field-value end text, t)
+-- so the bytes that were read are they
+pub digits-taken : (text : List ℕ) → take 19 (leading text) ≡ leading text → take (count text) text ≡ leading text
+digits-taken text t =
+    rw (ap length t) (ap (take (length (leading text))) (leading-split text) ∙ take-append-seam (leading text) (drop (length (leading text)) text))
+
+-- where digits are taken that are a number, and the byte that ends them stands after them, there is such a number,
+pub found-number : (g : Grammar) (end : ℕ) (text : List ℕ) → isDigit end ≡ false → 1 ≤ count text → count text < length text → getD text (count text) 0 ≡ end
+    → numberIn g (take (count text) text) ≡ true → found g end text ≡ Number (valueFrom 0 (take 19 (leading text))) (count text + 1)
+found-number g end text d l h e r =
+    let t = all-taken end text d l h e in
+    let good : Good g end text = record { right = rw (digits-taken text t) at r; inside = rw t at h; ended = rw t at e } in
+    rw (good-holds g end text good, field-value g end text, t)
 
 -- and elsewhere there is none
-pub found-nothing : (end : ℕ) (text : List ℕ) → (1 ≤ count text → count text < length text → getD text (count text) 0 ≡ end → ⊥) → found end text ≡ Nothing
-found-nothing end text none =
-    let never : field end text .good ≡ true → ⊥ = λ h. (
-    let g = holds-good end text h in
-    let t : take 19 (leading text) ≡ leading text = take-all 19 (leading text) (g .few) in
-    let c : count text ≡ length (leading text) = ap length t in
-    none (rw c (g .some)) (rw c (g .inside)) (rw c (g .ended))
+pub found-nothing : (g : Grammar) (end : ℕ) (text : List ℕ)
+    → (1 ≤ count text → count text < length text → getD text (count text) 0 ≡ end → numberIn g (take (count text) text) ≡ true → ⊥) → found g end text ≡ Nothing
+found-nothing g end text none =
+    let never : field g end text .good ≡ true → ⊥ = λ h. (
+    let good = holds-good g end text h in
+    let (some, few) = number-size g (leading text) (good .right) in
+    let t : take 19 (leading text) ≡ leading text = take-all 19 (leading text) few in
+    none (rw t some) (rw t (good .inside)) (rw t (good .ended)) (rw (digits-taken text t) (good .right))
     ) in
-    rw (refuted (field end text .good) never)
+    rw (refuted (field g end text .good) never)
 
 -- the part of a text from an index on, as a slice has it
 abbrev pub part : List ℕ → ℕ → List ℕ
 part text i = take (length text - i) (drop i text)
 
 -- what it says of a text that a number v is found in it, ended before index next
-pub record IsField (end : ℕ) (text : List ℕ) (v next : ℕ) : Type 0 where
-  pub good : field end text .good ≡ true
-  pub value : field end text .value ≡ v
-  pub rest : field end text .rest ≡ part text next
+pub record IsField (g : Grammar) (end : ℕ) (text : List ℕ) (v next : ℕ) : Type 0 where
+  pub good : field g end text .good ≡ true
+  pub value : field g end text .value ≡ v
+  pub rest : field g end text .rest ≡ part text next
   pub inside : next ≤ length text
 
 -- and where one is found, it is there
-pub number-found : (end : ℕ) (text : List ℕ) {v next : ℕ} → Number v next ≡ found end text → IsField end text v next
-number-found end text {v} {next} e = by-good (field end text .good) refl e
+pub number-found : (g : Grammar) (end : ℕ) (text : List ℕ) {v next : ℕ} → Number v next ≡ found g end text → IsField g end text v next
+number-found g end text {v} {next} e = by-good (field g end text .good) refl e
   where
-    by-good : (b : Bool) → field end text .good ≡ b → Number v next ≡ cond b (Number (field end text .value) (length (leading text) + 1)) Nothing
-        → IsField end text v next
-    by-good true g h =
+    by-good : (b : Bool) → field g end text .good ≡ b → Number v next ≡ cond b (Number (field g end text .value) (length (leading text) + 1)) Nothing
+        → IsField g end text v next
+    by-good true good h =
         let at : next ≡ length (leading text) + 1 = cc in
         record {
-          good = g;
+          good = good;
           value = cc;
-          rest = rw (take-all (length text - next) (drop next text) (rw length-drop (omega arith)), at) (field-rest end text);
-          inside = omega (arith, holds-good end text g .inside);
+          rest = rw (take-all (length text - next) (drop next text) (rw length-drop (omega arith)), at) (field-rest g end text);
+          inside = omega (arith, holds-good g end text good .inside);
         }
-    by-good false g h = absurd (let z : _≡_ {A = ℕ} 0 1 = cc in omega arith)
+    by-good false good h = absurd (let z : _≡_ {A = ℕ} 0 1 = cc in omega arith)
 
 -- where nothing is found, there is no number with its end
-pub nothing-found : (end : ℕ) (text : List ℕ) → Nothing ≡ found end text → field end text .good ≡ false
-nothing-found end text e = refuted (field end text .good) (λ g. (
-    let h : Nothing ≡ Number (field end text .value) (length (leading text) + 1) = rw g at e in
+pub nothing-found : (g : Grammar) (end : ℕ) (text : List ℕ) → Nothing ≡ found g end text → field g end text .good ≡ false
+nothing-found g end text e = refuted (field g end text .good) (λ good. (
+    let h : Nothing ≡ Number (field g end text .value) (length (leading text) + 1) = rw good at e in
     let z : _≡_ {A = ℕ} 0 1 = cc in
     omega arith
     ))

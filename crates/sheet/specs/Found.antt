@@ -5,6 +5,7 @@ use mathlib.Core.List.{List}
 use lib.ListN.{length, take}
 use Rattle.sheet.specs.Text.{valueFrom}
 use Rattle.sheet.specs.Asked.{leading, field}
+use Rattle.sheet.specs.declared.Grammar.{Grammar}
 use Rattle.sheet.specs.declared.Taken.{Taken}
 use Rattle.sheet.specs.declared.Found.{Found}
 use Rattle.sheet.specs.declared.Found.the-variants.{Number, Nothing}
@@ -14,5 +15,5 @@ abbrev pub taken : List ℕ → Taken
 taken text = record { count = length (take 19 (leading text)); value = valueFrom 0 (take 19 (leading text)) }
 
 -- the number at the beginning, and the index after the byte that ends it
-abbrev pub found : ℕ → List ℕ → Found
-found end text = cond (field end text .good) (Number (field end text .value) (length (leading text) + 1)) Nothing
+abbrev pub found : Grammar → ℕ → List ℕ → Found
+found g end text = cond (field g end text .good) (Number (field g end text .value) (length (leading text) + 1)) Nothing

@@ -30,9 +30,13 @@ columnName = 114 ∷ 111 ∷ 97 ∷ 100 ∷ []
 abbrev pub refusedName : List ℕ
 refusedName = 114 ∷ 101 ∷ 102 ∷ 117 ∷ 115 ∷ 101 ∷ 100 ∷ []
 
+-- the digit `0`
+abbrev pub ZERO : ℕ
+ZERO = 48
+
 -- a digit's byte, `0` to `9`
 abbrev pub isDigit : ℕ → Bool
-isDigit b = within 48 57 b
+isDigit b = within ZERO 57 b
 
 -- the number that a text of digits writes in base ten, after the digits that wrote `before`
 unfoldable pub valueFrom : ℕ → List ℕ → ℕ

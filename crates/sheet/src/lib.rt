@@ -1,6 +1,6 @@
-// The text of a sheet: what it asks for, and the answer, on byte slices.
+// The text of a sheet, on byte slices: what it asks for, the answer, and a filed sheet rewritten.
 ghost use mathlib.Core.Path.{_≡_};
-ghost use mathlib.Core.Bool.{false};
+ghost use mathlib.Core.Bool.{true, false};
 ghost use mathlib.Core.List.{[], _∷_, _++_};
 ghost use Prim.Native.Nat.{_+_, _<_};
 ghost use lib.ListN.{length, take, drop};
@@ -10,19 +10,26 @@ ghost use Rattle.gray.specs.Order.{S};
 ghost use Rattle.gray.specs.Listing.{rowAt};
 ghost use Rattle.rank.specs.Place.{checkRowCount};
 ghost use Rattle.sheet.specs.Text.{SPACE, columnName, isDigit, decimal};
-ghost use Rattle.sheet.specs.Asked.{asked, askedLine};
-ghost use Rattle.sheet.specs.Sheet.{names, nameLine, values, rowLines, refusedLine};
+ghost use Rattle.sheet.specs.Asked.{isFiledNumber, numberIn, askedLine, askedIn};
+ghost use Rattle.sheet.specs.Sheet.{names, nameLine, values, rowLines, refusedLine, answer};
+ghost use Rattle.sheet.specs.Rewriting.{sheetOf, rewritten};
 ghost use Rattle.sheet.specs.Found.{taken, found};
-ghost use Rattle.sheet.specs.Written.{Answered, Room, Wrote, rowLine};
+ghost use Rattle.sheet.specs.Written.{CAPACITY, REWRITTEN-CAPACITY, Answered, Room, Wrote, rowLine};
 
 // A slice of so many bytes suffices for the answer to any text: a line of names of at most 5 + 20×7 + 1 bytes, and at most 1,000 rows of at most
 // 20 + 20×3 + 1 bytes.
 pub const CAPACITY: usize = 146 + 1000 * 81;
 
-// The refusal of a text that is not as document 01 says.
+// A slice of so many bytes suffices for any sheet rewritten: the header, and four numbers of at most 19 digits, each with the byte that ends it.
+pub const REWRITTEN_CAPACITY: usize = HEADER_SIZE + 4 * (MOST_DIGITS + 1);
+
+// How much of a text a program reads: one byte more than the longest that is not refused.
+pub const MOST_READ: usize = LONGEST + 1;
+
+// The refusal of a text that is no sheet.
 pub const REFUSED_TEXT: u8 = 11;
 
-// The first line of a sheet.
+// The first line of a sheet: the reader compares it, and the rewriting writes it.
 pub const HEADER: [u8; HEADER_SIZE] = *b"trams loops first rows\n";
 
 const HEADER_SIZE: usize = 23;
@@ -34,7 +41,13 @@ const MOST_DIGITS: usize = 19;
 
 const LARGEST: usize = 20;
 
-// What a sheet's text asks for: m rows of S(n,k) from a place on; or a text that is not as document 01 says.
+// By which grammar a text is read: since document 02, m), no number but `0` begins with 0; in filed sheets it may.
+pub enum Grammar {
+    Current,
+    Filed,
+}
+
+// What a sheet's text asks for: m rows of S(n,k) from a place on; or a text that is no sheet.
 pub enum Asked {
     Rows { n: u64, k: u64, place: u64, m: u64 },
     Unreadable,
@@ -55,12 +68,12 @@ enum Found {
 // Writes the answer to a text at the beginning of `out`, and gives its length. The slice is lent at any length, so that a caller needs no array of a
 // certain size: in one that is shorter than CAPACITY nothing is written, and the length is 0.
 pub fn answer(text: &[u8], out: &mut [u8]) -> usize
-    ensures { λ r. ⌜ Answered (now (text .entry)) (now (out .entry)) r (now (out .exit)) ⌝ }
+    ensures { λ r. ⌜ Answered CAPACITY (answer (now (text .entry))) (now (out .entry)) r (now (out .exit)) ⌝ }
 {
     if out.len() < CAPACITY {
         return 0;
     }
-    let asked = read_text(text);
+    let asked = read_text(Grammar::Current, text);
     let Asked::Rows { n, k, place, m } = asked else {
         return put_refused(REFUSED_TEXT, out, 0);
     };
@@ -72,9 +85,24 @@ pub fn answer(text: &[u8], out: &mut [u8]) -> usize
     put_rows(n, k, place, m, out, named)
 }
 
-// What a text asks for.
-pub fn read_text(text: &[u8]) -> Asked
-    ensures { λ r. ⌜ r ≡ asked (now (text .entry)) ⌝ }
+// Writes a filed sheet's text, its numbers without leading zeros, at the beginning of `out`, and gives its length; of any other text, the line that refuses
+// it. Whether the numbers are in range is not asked. In a slice that is shorter than REWRITTEN_CAPACITY nothing is written, and the length is 0.
+pub fn rewrite(text: &[u8], out: &mut [u8]) -> usize
+    ensures { λ r. ⌜ Answered REWRITTEN-CAPACITY (rewritten (now (text .entry))) (now (out .entry)) r (now (out .exit)) ⌝ }
+{
+    if out.len() < REWRITTEN_CAPACITY {
+        return 0;
+    }
+    let asked = read_text(Grammar::Filed, text);
+    let Asked::Rows { n, k, place, m } = asked else {
+        return put_refused(REFUSED_TEXT, out, 0);
+    };
+    put_sheet(n, k, place, m, out, 0)
+}
+
+// What a text asks for, by a grammar.
+pub fn read_text(grammar: Grammar, text: &[u8]) -> Asked
+    ensures { λ r. ⌜ r ≡ askedIn grammar (now (text .entry)) ⌝ }
 {
     if text.len() > LONGEST {
         return Asked::Unreadable;
@@ -82,7 +110,7 @@ pub fn read_text(text: &[u8]) -> Asked
     if !begins_with(text, &HEADER) {
         return Asked::Unreadable;
     }
-    read_line(&text[HEADER_SIZE..])
+    read_line(grammar, &text[HEADER_SIZE..])
 }
 
 // Whether a text begins with all of another.
@@ -103,22 +131,22 @@ fn begins_with(text: &[u8], start: &[u8]) -> bool
 }
 
 // What the line after the header asks for.
-fn read_line(line: &[u8]) -> Asked
-    ensures { λ r. ⌜ r ≡ askedLine (now (line .entry)) ⌝ }
+fn read_line(grammar: Grammar, line: &[u8]) -> Asked
+    ensures { λ r. ⌜ r ≡ askedLine grammar (now (line .entry)) ⌝ }
 {
-    let Found::Number(n, after_n) = read_field(line, b' ') else {
+    let Found::Number(n, after_n) = read_field(grammar, line, b' ') else {
         return Asked::Unreadable;
     };
     let from_k = &line[after_n..];
-    let Found::Number(k, after_k) = read_field(from_k, b' ') else {
+    let Found::Number(k, after_k) = read_field(grammar, from_k, b' ') else {
         return Asked::Unreadable;
     };
     let from_place = &from_k[after_k..];
-    let Found::Number(place, after_place) = read_field(from_place, b' ') else {
+    let Found::Number(place, after_place) = read_field(grammar, from_place, b' ') else {
         return Asked::Unreadable;
     };
     let from_m = &from_place[after_place..];
-    let Found::Number(m, after_m) = read_field(from_m, b'\n') else {
+    let Found::Number(m, after_m) = read_field(grammar, from_m, b'\n') else {
         return Asked::Unreadable;
     };
     if after_m != from_m.len() {
@@ -127,10 +155,10 @@ fn read_line(line: &[u8]) -> Asked
     Asked::Rows { n, k, place, m }
 }
 
-// The number that a text begins with, where it has 1 to 19 digits and the byte `end` after them.
-fn read_field(text: &[u8], end: u8) -> Found
+// The number that a text begins with, where its digits are one of the grammar and the byte `end` stands after them.
+fn read_field(grammar: Grammar, text: &[u8], end: u8) -> Found
     requires { ⌜ isDigit end ≡ false ⌝ }
-    ensures { λ r. ⌜ r ≡ found end (now (text .entry)) ⌝ }
+    ensures { λ r. ⌜ r ≡ found grammar end (now (text .entry)) ⌝ }
 {
     let digits = take_digits(text);
     let count = digits.count;
@@ -143,7 +171,24 @@ fn read_field(text: &[u8], end: u8) -> Found
     if text[count] != end {
         return Found::Nothing;
     }
+    if !is_number(grammar, &text[..count]) {
+        return Found::Nothing;
+    }
     Found::Number(digits.value, count + 1)
+}
+
+// Whether digits, which a filed sheet may have as a number, are a number of the grammar: today not several that begin with 0.
+fn is_number(grammar: Grammar, digits: &[u8]) -> bool
+    requires { ⌜ isFiledNumber (now digits) ≡ true ⌝ }
+    ensures { λ r. ⌜ r ≡ numberIn grammar (now (digits .entry)) ⌝ }
+{
+    if digits.len() == 1 {
+        return true;
+    }
+    match grammar {
+        Grammar::Current => digits[0] != b'0',
+        Grammar::Filed => true,
+    }
 }
 
 // The digits that a text begins with, at most 19 of them, so that no number is too large.
@@ -213,6 +258,27 @@ fn put_number(x: u64, out: &mut [u8], at: usize) -> usize
     }
     let last = put_number(x / 10, out, at);
     put_byte(digit(x % 10), out, last)
+}
+
+// Writes a number and the byte that ends it.
+fn put_field(x: u64, end: u8, out: &mut [u8], at: usize) -> usize
+    requires { ⌜ Room (now out) at (decimal x ++ (end ∷ [])) ⌝ }
+    ensures { λ r. ⌜ Wrote (now (out .entry)) at (decimal x ++ (end ∷ [])) r (now (out .exit)) ⌝ }
+{
+    let ended = put_number(x, out, at);
+    put_byte(end, out, ended)
+}
+
+// Writes a sheet that asks for m rows of S(n,k) from a place on.
+fn put_sheet(n: u64, k: u64, place: u64, m: u64, out: &mut [u8], at: usize) -> usize
+    requires { ⌜ Room (now out) at (sheetOf n k place m) ⌝ }
+    ensures { λ r. ⌜ Wrote (now (out .entry)) at (sheetOf n k place m) r (now (out .exit)) ⌝ }
+{
+    let headed = put_bytes(&HEADER, out, at);
+    let after_n = put_field(n, b' ', out, headed);
+    let after_k = put_field(k, b' ', out, after_n);
+    let after_place = put_field(place, b' ', out, after_k);
+    put_field(m, b'\n', out, after_place)
 }
 
 // Writes ` road` and a number.

@@ -2,13 +2,10 @@
 use libc::STDIN_FILENO;
 use libc::STDOUT_FILENO;
 
-// One byte more than the longest text that is not refused.
-const MOST_READ: usize = 4097;
-
 // Reading ends at the input's end, or when one byte more than the longest text is there, or when a read fails: the bytes read so far are the text.
 // When a write fails the program stops writing.
 fn main() {
-    let mut text = [0u8; MOST_READ];
+    let mut text = [0u8; sheet::MOST_READ];
     let size = io::read_full(STDIN_FILENO, &mut text);
     let mut out = [0u8; sheet::CAPACITY];
     let length = sheet::answer(&text[..size], &mut out);

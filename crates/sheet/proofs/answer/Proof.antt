@@ -2,6 +2,7 @@
 use mathlib.Core.Path.{_≡_, sym, _∙_}
 use mathlib.Core.List.{List, _++_}
 use Prim.Native.Nat.{ℕ}
+use native.Mathlib.Omega.{arith}
 use lib.ListN.{take, drop}
 use denote.Ref.{now}
 use borrow.Author.Needs.{needs}
@@ -9,7 +10,9 @@ use Rattle.gray.specs.Order.{S}
 use Rattle.rank.specs.Place.{checkRowCount}
 use Rattle.sheet.specs.Asked.{asked}
 use Rattle.sheet.specs.Sheet.{nameLine, rowLines, refusedLine, answer}
+use Rattle.sheet.specs.Written.{CAPACITY}
 use Rattle.sheet.specs.declared.Asked.the-variants.{Rows}
+use Rattle.sheet.proofs.Capacity.{answer-fits}
 use Rattle.sheet.proofs.Writing.{both, room-first, room-second}
 use Rattle.sheet.proofs.Outcome.{unreadable, refused, served, room, answered, short}
 use Rattle.sheet.proofs.answer.Statement.{statement}
@@ -53,10 +56,10 @@ module _ (s : tie.After-check-row-count) where
 no-rows : (s : tie.Then2) → refusedLine (s .before .check-row-count .result) ≡ answer (text (of-check (s .before)))
 no-rows s =
     let c = s .before in
-    refused (text (of-check c)) (n c) (k c) (place c) (m c) (asks c) (c .check-row-count .result) (c .check-row-count .ensures) (s .if2 .taken)
+    refused (text (of-check c)) (n c) (k c) (place c) (m c) (asks c) (c .check-row-count .result) (c .check-row-count .ensures) (λ e. omega (arith, s .if2 .taken))
 
 passed : (s : tie.Else2) → checkRowCount (n (s .before)) (k (s .before)) (place (s .before)) (m (s .before)) ≡ 0
-passed s = sym (s .before .check-row-count .ensures) ∙ s .if2 .left
+passed s = omega (arith, s .before .check-row-count .ensures, s .if2 .left)
 
 lines : (s : tie.Else2) → nameLine (n (s .before)) ++ rowLines (place (s .before)) (take (m (s .before)) (drop (place (s .before)) (S (n (s .before)) (k (s .before)))))
     ≡ answer (text (of-check (s .before)))
@@ -65,7 +68,7 @@ lines s =
     served (text (of-check c)) (n c) (k c) (place c) (m c) (asks c) (passed s)
 
 returns : tie.Need-returns
-returns c = short (now (c .before .before .before .args .text)) (now (c .before .before .before .args .out)) (c .if1 .taken)
+returns c = short CAPACITY _ (now (c .before .before .before .args .out)) (omega (arith, c .if1 .taken))
 
 read-text-requires : tie.Need-read-text-requires
 read-text-requires c κs = search needs
@@ -79,7 +82,7 @@ enum-told c = search needs
 put-refused-requires : tie.Need-put-refused-requires
 put-refused-requires c κs =
     let e = of-told (c .before) in
-    room (text e) (held e) (no-sheet (c .before)) (e .if1 .left)
+    room (answer (text e)) (held e) (answer-fits (text e)) (no-sheet (c .before)) (omega (arith, e .if1 .left))
 
 same-length : tie.Need-same-length
 same-length c = search needs
@@ -88,7 +91,7 @@ returns-2 : tie.Need-returns-2
 returns-2 c =
     let told = c .before .before .before .before in
     let e = of-told told in
-    answered (text e) (held e) _ _ (no-sheet told) (e .if1 .left) (c .before .before .put-refused .ensures)
+    answered (answer (text e)) (held e) (answer-fits (text e)) _ _ (no-sheet told) (omega (arith, e .if1 .left)) (c .before .before .put-refused .ensures)
 
 check-row-count-requires : tie.Need-check-row-count-requires
 check-row-count-requires c κs = search needs
@@ -96,7 +99,7 @@ check-row-count-requires c κs = search needs
 put-refused-requires-2 : tie.Need-put-refused-requires-2
 put-refused-requires-2 c κs =
     let e = of-check (c .before .before) in
-    room (text e) (held e) (no-rows (c .before)) (e .if1 .left)
+    room (answer (text e)) (held e) (answer-fits (text e)) (no-rows (c .before)) (omega (arith, e .if1 .left))
 
 same-length-2 : tie.Need-same-length-2
 same-length-2 c = search needs
@@ -105,19 +108,19 @@ returns-3 : tie.Need-returns-3
 returns-3 c =
     let then = c .before .before .before .before in
     let e = of-check (then .before) in
-    answered (text e) (held e) _ _ (no-rows then) (e .if1 .left) (c .before .before .put-refused2 .ensures)
+    answered (answer (text e)) (held e) (answer-fits (text e)) _ _ (no-rows then) (omega (arith, e .if1 .left)) (c .before .before .put-refused2 .ensures)
 
 put-name-line-requires : tie.Need-put-name-line-requires
 put-name-line-requires c κs =
     let e = of-check (c .before .before) in
-    room-first (nameLine _) _ (room (text e) (held e) (lines (c .before)) (e .if1 .left))
+    room-first (nameLine _) _ (room (answer (text e)) (held e) (answer-fits (text e)) (lines (c .before)) (omega (arith, e .if1 .left)))
 
 put-rows-requires : tie.Need-put-rows-requires
 put-rows-requires c κs =
     let else = c .before .before .before .before .before in
     let e = of-check (else .before) in (
       passed else,
-      room-second (nameLine _) _ (room (text e) (held e) (lines else) (e .if1 .left)) (c .before .before .before .put-name-line .ensures),
+      room-second (nameLine _) _ (room (answer (text e)) (held e) (answer-fits (text e)) (lines else) (omega (arith, e .if1 .left))) (c .before .before .before .put-name-line .ensures),
     )
 
 same-length-3 : tie.Need-same-length-3
@@ -129,12 +132,13 @@ returns-4 c =
     let else = named .before .before in
     let e = of-check (else .before) in
     answered
-    (text e)
+    (answer (text e))
     (held e)
+    (answer-fits (text e))
     _
     _
     (lines else)
-    (e .if1 .left)
+    (omega (arith, e .if1 .left))
     (both (nameLine _) (rowLines _ _) (named .put-name-line .ensures) (c .before .before .put-rows .ensures))
 
 pub answer-spec : {M : Type 1} → statement M

@@ -13,7 +13,7 @@ use Rattle.sheet.proofs.read_text.Statement.{statement}
 use Rattle.sheet.proofs.read_text.Tie as tie
 
 returns : tie.Need-returns
-returns c = asked-long _ (c .if1 .taken)
+returns c = asked-long _ _ (c .if1 .taken)
 
 slice-aggregate-begins-with : tie.Need-slice-aggregate-begins-with
 slice-aggregate-begins-with c = search needs
@@ -22,7 +22,7 @@ begins-with-requires : tie.Need-begins-with-requires
 begins-with-requires c κs = search needs
 
 returns-2 : tie.Need-returns-2
-returns-2 c = asked-other _ (omega arith) (sym (c .before .begins-with .ensures) ∙ not-true _ (c .if2 .taken))
+returns-2 c = asked-other _ _ (omega arith) (sym (c .before .begins-with .ensures) ∙ not-true _ (c .if2 .taken))
 
 has-header : (c : tie.Else2) → same (take (length header) (now (c .before .before .before .before .before .args .text))) header ≡ true
 has-header c = sym (c .before .begins-with .ensures) ∙ not-false _ (c .if2 .left)
@@ -40,7 +40,7 @@ read-line-requires : tie.Need-read-line-requires
 read-line-requires c κs = search needs
 
 returns-3 : tie.Need-returns-3
-returns-3 c = c .read-line .ensures ∙ asked-line _ (omega arith) (has-header (c .before .before))
+returns-3 c = c .read-line .ensures ∙ asked-line _ _ (omega arith) (has-header (c .before .before))
 
 pub read-text-spec : {M : Type 1} → statement M
 read-text-spec =
