@@ -47,11 +47,11 @@ fn as_shown() {
         let n: usize = parts[1].split(' ').next().unwrap().parse().unwrap();
         let answer: Vec<&str> = parts[2].split(' ').collect();
         assert_eq!(answer[0], "0");
-        let row: Vec<u8> = answer[5].split('.').take(n).map(|value| value.parse().unwrap()).collect();
-        assert_eq!(reported(&row).0, answer[7].parse().unwrap(), "{line}");
+        let row: Vec<u8> = answer[6].split('.').take(n).map(|value| value.parse().unwrap()).collect();
+        assert_eq!(reported(&row).0, answer[8].parse().unwrap(), "{line}");
         shows += 1;
     }
-    assert_eq!(shows, 138);
+    assert_eq!(shows, 148);
 }
 
 /// n over f, times the permutations of n - f without a fixed point, have f of them.

@@ -49,6 +49,7 @@ fn print_answer(to: Answer) {
     print::field(to.i);
     print::field(to.j);
     print::field(to.l);
+    print::field(to.changed);
     print::field(to.place);
     print_pair(perm, array);
     print::text(b" ");

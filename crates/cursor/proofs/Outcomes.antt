@@ -7,7 +7,7 @@ use Rattle.stirling.specs.Count.{c, lookupOf}
 use Rattle.stirling.proofs.Counts.{cycles-passed, looked-up, fits}
 use Rattle.perm.specs.Permutation.{fixed}
 use Rattle.gray.specs.Listing.{Near}
-use Rattle.cursor.specs.Machine.{Machine, Call, show, Steps, onward, backward, observe, rowOf, refusalOf, destination, moved, turn, bare, stepped, stepTo, given, answered}
+use Rattle.cursor.specs.Machine.{Machine, Call, forward, back, jump, show, Steps, onward, backward, observe, rowOf, refusalOf, destination, moved, turn, bare, stepped, stepTo, given, answered}
 use Rattle.cursor.specs.Walk.{machineOf, sound, called}
 use Rattle.cursor.specs.declared.Cursor.{Cursor}
 use Rattle.cursor.specs.declared.Answer.{Answer}
@@ -28,8 +28,15 @@ pub agree : (found right : Bool) → (found ≡ true → right ≡ true) → (fo
 agree true right f g = sym (f refl)
 agree false right f g = sym (g refl)
 
+-- the answer to a call that is not refused is no refusal
+pub given-refusal : (m : Machine) (call : Call) → given m call .refusal ≡ 0
+given-refusal m forward = refl
+given-refusal m back = refl
+given-refusal m (jump r) = refl
+given-refusal m show = refl
+
 -- what forward and back answer where they are not refused
-pub given-step : (m : Machine) {call : Call} → Steps call → given m call ≡ stepped (rowOf m) (rowOf (moved m (destination m call)))
+pub given-step : (m : Machine) {call : Call} → Steps call → given m call ≡ stepped (m .n) (rowOf m) (rowOf (moved m (destination m call)))
 given-step m onward = refl
 given-step m backward = refl
 
@@ -72,6 +79,7 @@ held w number = record {
   i = 0;
   j = 0;
   l = 0;
+  changed = 0;
   place = w .place;
   perm = w .perm;
   array = w .array;

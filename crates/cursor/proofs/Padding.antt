@@ -14,6 +14,7 @@ use Rattle.perm.specs.Checks.{checkLent, ToArray}
 use Rattle.perm.specs.declared.Array.{Array}
 use Rattle.perm.proofs.Checked.{passes-values, passes-twice}
 use Rattle.perm.proofs.ArrayOf.{is-array-of}
+use Rattle.perm.proofs.Distance.{length-array}
 use Rattle.gray.specs.Order.{S}
 use Rattle.gray.specs.Listing.{rowAt}
 use Rattle.rank.specs.Place.{Unranked}
@@ -35,6 +36,10 @@ front-padded {n} s e h = rw (drop-replicate {A = ℕ} 0 20 n h, e)
 pub take-padded : {n : ℕ} (s : List ℕ) → length s ≡ n → take n (padded s) ≡ s
 take-padded {n} s e = take-at s (replicate (20 - length s) 0) n e
 
+-- so there are at least n
+length-padded : {n : ℕ} (s : List ℕ) → length s ≡ n → n ≤ length (padded s)
+length-padded s e = omega (arith, length-append s (replicate (20 - length s) 0))
+
 -- the row at a place that is not refused is a permutation
 pub row-placed : (n k place : ℕ) → checkPlace n k place ≡ 0 → IsPermutation n (rowAt (S n k) place)
 row-placed n k place e = row-permutation (moved (start n k) place) (placed n k place e)
@@ -42,12 +47,22 @@ row-placed n k place e = row-permutation (moved (start n k) place) (placed n k p
 -- the record that shows a machine on its place holds at least n bytes of permutation
 pub length-shown : (m : Machine) → OnPlace m → m .n ≤ length (observe m .perm)
 unfolding observe
-length-shown m on = omega (arith, row-permutation m on .size, length-append (rowOf m) (replicate (20 - length (rowOf m)) 0))
+length-shown m on = length-padded (rowOf m) (row-permutation m on .size)
 
 -- and the first n are its row
 pub take-shown : (m : Machine) → OnPlace m → take (m .n) (observe m .perm) ≡ rowOf m
 unfolding observe
 take-shown m on = take-padded (rowOf m) (row-permutation m on .size)
+
+-- of its array it holds at least n bytes too
+pub length-shown-array : (m : Machine) → OnPlace m → m .n ≤ length (observe m .array)
+unfolding observe
+length-shown-array m on = length-padded (arrayOf (m .n) (rowOf m)) (length-array (row-permutation m on))
+
+-- and the first n are the array of its row
+pub take-shown-array : (m : Machine) → OnPlace m → take (m .n) (observe m .array) ≡ arrayOf (m .n) (rowOf m)
+unfolding observe
+take-shown-array m on = take-padded (arrayOf (m .n) (rowOf m)) (length-array (row-permutation m on))
 
 -- check 5 passes on a slice of n bytes
 lent-passes : {n : ℕ} (before : List ℕ) → length before ≡ n → checkLent n (length before) ≡ 0

@@ -17,7 +17,7 @@ use Rattle.perm.specs.Permutation.{IsPermutation, at, rotate}
 use Rattle.perm.proofs.Values.{injective, at-suc}
 use Rattle.perm.proofs.ArrayOf.{position-at}
 use Rattle.gray.specs.Order.{Row, S}
-use Rattle.gray.specs.Listing.{Positions, Near}
+use Rattle.gray.specs.Listing.{rowAt, Positions, Near}
 use Rattle.gray.proofs.Once.{length-S, complete}
 use Rattle.gray.proofs.Neighbours.{neighbours, closed}
 use Rattle.cursor.specs.Machine.{Machine, InSection, Call, forward, back, Steps, onward, backward, rowOf, whole, stops, placeAfter, refusalOf, destination, moved, turn, firstFrom, stepI, stepJ, stepL, IsStep, Reversed, stepped, answered}
@@ -65,8 +65,16 @@ near-step {n} {s} {t} p near =
       only = reported p;
     }
 
+-- near rows are different
+pub near-other : {n : ℕ} {s t : Row} → IsPermutation n s → Near n s t → s ≡ t → ⊥
+near-other {s = s} p near e =
+    let three = near .three in
+    let (i-low, i-high) = three .i-in in
+    let (j-low, j-high) = three .j-in in
+    three .i-j (injective p (near .i) (near .j) i-low i-high j-low j-high (ap (λ r. at r (near .i)) (e ∙ near .step) ∙ at-rotate-i s (p .size) three))
+
 -- the step back between near rows goes round the same positions the other way
-pub step-back : {n : ℕ} {s t : Row} → IsPermutation n s → IsPermutation n t → Near n s t → Reversed (stepped s t) (stepped t s)
+pub step-back : {n : ℕ} {s t : Row} → IsPermutation n s → IsPermutation n t → Near n s t → Reversed (stepped n s t) (stepped n t s)
 step-back {s = s} {t} p q near =
     let there = near-step p near in
     let back : s ≡ rotate t (stepI s t) (stepL s t) (stepJ s t) =
@@ -135,36 +143,48 @@ end-closes m place e at = cases (whole m) closed-one shorter
     shorter : whole m ≡ false → Closing m
     shorter f = absurd (goes-on m place e .1 f at)
 
--- a row of a section is near the one at the place after: the next one, and in a closed section the last one near the first
-after-near : (m : Machine) → InSection m → (m .place ≡ m .highest → Closing m)
-    → Near (m .n) (rowOf m) (rowOf (moved m (placeAfter (m .lowest) (m .highest) (m .place))))
-after-near m inside closing = go (ℕ-discrete (m .place) (m .highest))
-  where
-    go : Dec (m .place ≡ m .highest) → Near (m .n) (rowOf m) (rowOf (moved m (placeAfter (m .lowest) (m .highest) (m .place))))
-    go (yes e) =
-        let closes = closing e in
-        let last : length (S (m .n) (m .k)) - 1 ≡ m .place = omega (arith, length-S (m .n) (m .k), closes .last) in
-        let two : 2 ≤ length (S (m .n) (m .k)) = omega (arith, length-S (m .n) (m .k), closes .others, inside .last) in
-        rw (after-last (m .lowest) (m .highest) (m .place) e, closes .first) (rw last at (closed (m .n) (m .k) two))
-    go (no d) =
-        rw (after-other (m .lowest) (m .highest) (m .place) d, add-one)
-        (neighbours (m .n) (m .k) (m .place) (omega (arith, length-S (m .n) (m .k), inside .high, inside .last)))
+-- what holds of neighbours in every list, of its last and first row, and either way
+pub record OfNeighbours (R : ℕ → Row → Row → Type 0) : Type 0 where
+  pub each : (n k place : ℕ) → suc place < length (S n k) → R n (rowAt (S n k) place) (rowAt (S n k) (suc place))
+  pub ring : (n k : ℕ) → 2 ≤ length (S n k) → R n (rowAt (S n k) (length (S n k) - 1)) (rowAt (S n k) 0)
+  pub back : (n : ℕ) (s t : Row) → IsPermutation n s → IsPermutation n t → R n s t → R n t s
 
--- the row after a forward or back that is not refused is near the row before
+module _ {R : ℕ → Row → Row → Type 0} (holds : OfNeighbours R) where
+  -- it holds of a row of a section and the one at the place after: the next one, and in a closed section of the last one and the first
+  after-holds : (m : Machine) → InSection m → (m .place ≡ m .highest → Closing m)
+      → R (m .n) (rowOf m) (rowOf (moved m (placeAfter (m .lowest) (m .highest) (m .place))))
+  after-holds m inside closing = go (ℕ-discrete (m .place) (m .highest))
+    where
+      go : Dec (m .place ≡ m .highest) → R (m .n) (rowOf m) (rowOf (moved m (placeAfter (m .lowest) (m .highest) (m .place))))
+      go (yes e) =
+          let closes = closing e in
+          let last : length (S (m .n) (m .k)) - 1 ≡ m .place = omega (arith, length-S (m .n) (m .k), closes .last) in
+          let two : 2 ≤ length (S (m .n) (m .k)) = omega (arith, length-S (m .n) (m .k), closes .others, inside .last) in
+          rw (after-last (m .lowest) (m .highest) (m .place) e, closes .first) (rw last at (holds .ring (m .n) (m .k) two))
+      go (no d) =
+          rw (after-other (m .lowest) (m .highest) (m .place) d, add-one)
+          (holds .each (m .n) (m .k) (m .place) (omega (arith, length-S (m .n) (m .k), inside .high, inside .last)))
+
+  -- and of the row before a forward or back that is not refused and the row after
+  pub turn-holds : (m : Machine) (call : Call) → InSection m → Steps call → refusalOf m call ≡ 0 → R (m .n) (rowOf m) (rowOf (moved m (destination m call)))
+  turn-holds m _ inside onward e = after-holds m inside (end-closes m (m .highest) (step-served m onward e))
+  turn-holds m _ inside backward e =
+      let there = moved m (destination m back) in
+      let held = after-holds there (step-in m inside backward) (closes (ℕ-discrete (m .place) (m .lowest))) in
+      holds .back (m .n) (rowOf there) (rowOf m)
+      (row-permutation there (in-on there (step-in m inside backward)))
+      (row-permutation m (in-on m inside))
+      (rw (after-before (m .lowest) (m .highest) (m .place) (inside .low) (inside .high)) at held)
+    where
+      closes : Dec (m .place ≡ m .lowest) → destination m back ≡ m .highest → Closing (moved m (destination m back))
+      closes (yes at) f =
+          let closing = end-closes m (m .lowest) (step-served m backward e) at in
+          record { first = closing .first; last = closing .last; others = closing .others }
+      closes (no d) f = absurd (omega (arith, before-other (m .lowest) (m .highest) (m .place) d, inside .low, inside .high))
+
+-- so the two are near
 pub turn-near : (m : Machine) (call : Call) → InSection m → Steps call → refusalOf m call ≡ 0 → Near (m .n) (rowOf m) (rowOf (moved m (destination m call)))
-turn-near m _ inside onward e = after-near m inside (end-closes m (m .highest) (step-served m onward e))
-turn-near m _ inside backward e =
-    let there = moved m (destination m back) in
-    let near = after-near there (step-in m inside backward) (closes (ℕ-discrete (m .place) (m .lowest))) in
-    near-back
-    (row-permutation there (in-on there (step-in m inside backward)) .size)
-    (rw (after-before (m .lowest) (m .highest) (m .place) (inside .low) (inside .high)) at near)
-  where
-    closes : Dec (m .place ≡ m .lowest) → destination m back ≡ m .highest → Closing (moved m (destination m back))
-    closes (yes at) f =
-        let closing = end-closes m (m .lowest) (step-served m backward e) at in
-        record { first = closing .first; last = closing .last; others = closing .others }
-    closes (no d) f = absurd (omega (arith, before-other (m .lowest) (m .highest) (m .place) d, inside .low, inside .high))
+turn-near = turn-holds {R = Near} (record { each = neighbours; ring = closed; back = λ n s t p q near. near-back (p .size) near })
 
 -- demand 3, the steps: at each forward or back that is not refused, the answer's three positions are the step from the old row to the new one
 pub steps : (m : Machine) (call : Call) → InSection m → Steps call → refusalOf m call ≡ 0

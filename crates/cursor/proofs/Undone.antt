@@ -9,7 +9,8 @@ use native.Mathlib.Decide.{ℕ-discrete}
 use borrow.Table.Steps.{cases}
 use Rattle.stirling.specs.Refusal.{unless}
 use Rattle.stirling.proofs.Refusals.{unless-passes, unless-refuses}
-use Rattle.cursor.specs.Machine.{Machine, InSection, Call, forward, back, jump, show, Steps, onward, backward, observe, rowOf, whole, refusalOf, destination, moved, turn, Reversed, bare, stepped, given, answered, turned}
+use Rattle.perm.proofs.Distance.{changed-sym}
+use Rattle.cursor.specs.Machine.{Machine, InSection, Call, forward, back, Steps, onward, backward, observe, rowOf, whole, refusalOf, destination, moved, turn, Reversed, bare, stepped, given, answered, turned}
 use Rattle.cursor.specs.Walk.{machineOf, sound, called, Undone}
 use Rattle.cursor.specs.declared.Cursor.{Cursor}
 use Rattle.cursor.specs.declared.Answer.{Answer}
@@ -17,7 +18,7 @@ use Rattle.cursor.proofs.Ring.{after-other, before-other, before-after,
 use Rattle.cursor.proofs.Calls.{in-on, called-observe, destination-in, turn-in}
 use Rattle.cursor.proofs.Steps.{step-back, row-permutation, step-serves, step-served, goes-on, on-goes, whole-serves, whole-served, turn-near}
 use Rattle.cursor.proofs.Sound.{sound-in, sound-shows}
-use Rattle.cursor.proofs.Outcomes.{given-step, called-unsound}
+use Rattle.cursor.proofs.Outcomes.{given-refusal, given-step, called-unsound}
 
 -- a step, and the one that undoes it
 pub data Opposite : Call → Call → Type 0 where
@@ -48,7 +49,7 @@ module _ (m : Machine) (call : Call) where
   turn-moves e = unless-passes (refusalOf m call) _ m e
 
   -- and a step reports that between the two rows
-  pub answer-step : Steps call → refusalOf m call ≡ 0 → answered m call ≡ stepped (rowOf m) (rowOf (moved m (destination m call)))
+  pub answer-step : Steps call → refusalOf m call ≡ 0 → answered m call ≡ stepped (m .n) (rowOf m) (rowOf (moved m (destination m call)))
   unfolding answered
   answer-step kind e = unless-passes (refusalOf m call) _ _ e ∙ given-step m kind
 
@@ -74,10 +75,11 @@ serves-back m by-forward inside e =
 abbrev Undoable : Machine → Call → Type 0
 Undoable m call = (refusalOf m call ≡ 0) ⊎ (whole m ≡ true)
 
--- what is asked of two answers: the second has the positions of the first the other way round, and is a refusal only if that is one
+-- what is asked of two answers: the second has the positions of the first the other way round and as many entries changed, and is a refusal only if that is one
 abbrev Answers : Machine → Call → Call → Type 0
 Answers m call other =
-    Reversed (answered m call) (answered (turn m call) other) × (answered m call .refusal ≡ 0 → answered (turn m call) other .refusal ≡ 0)
+    Reversed (answered m call) (answered (turn m call) other) × (answered (turn m call) other .changed ≡ answered m call .changed)
+    × (answered m call .refusal ≡ 0 → answered (turn m call) other .refusal ≡ 0)
 
 module _ (m : Machine) (call other : Call) (pair : Opposite call other) (inside : InSection m) (can : Undoable m call) where
   -- on the whole list a step is refused where its opposite is
@@ -106,19 +108,15 @@ module _ (m : Machine) (call other : Call) (pair : Opposite call other) (inside 
           let m′ = moved m (destination m call) in
           let on′ = in-on m′ (destination-in m call inside e) in
           let again = answer-step m′ other (second pair) (serves-back m pair inside e)
-          ∙ ap (λ place. stepped (rowOf m′) (rowOf (moved m place))) (leads-back m pair inside) in
+          ∙ ap (λ place. stepped (m .n) (rowOf m′) (rowOf (moved m place))) (leads-back m pair inside) in
+          let p = row-permutation m (in-on m inside) in
+          let q = row-permutation m′ on′ in
           rw (turn-moves m call e, answer-step m call (first pair) e, again)
-          (step-back (row-permutation m (in-on m inside)) (row-permutation m′ on′) (turn-near m call inside (first pair) e), λ f. refl)
+          (step-back p q (turn-near m call inside (first pair) e), changed-sym q p, λ f. refl)
       go (no d) =
-          rw (turn-stays m call d, answer-none m call d, answer-none m other (both-refused d)) ((refl, refl, refl), λ f. absurd (d f))
+          rw (turn-stays m call d, answer-none m call d, answer-none m other (both-refused d)) ((refl, refl, refl), refl, λ f. absurd (d f))
 
 -- the refusal that an answer reports is the machine's
-given-refusal : (m : Machine) (call : Call) → given m call .refusal ≡ 0
-given-refusal m forward = refl
-given-refusal m back = refl
-given-refusal m (jump r) = refl
-given-refusal m show = refl
-
 unless-bare : (r : ℕ) (a : Answer) → a .refusal ≡ 0 → unless r a (bare r) .refusal ≡ r
 unless-bare zero a e = e
 unless-bare (suc r) a e = refl
@@ -154,11 +152,12 @@ undone w call other pair can = cases (sound w) passes fails
         record {
           same-record = ap (λ s. s .cursor) again ∙ ap observe (turn-undone m call other pair inside (undoable e can)) ∙ sym (sound-shows w e);
           reversed = rw (again, called-turned w call e) (answers .0);
-          served = rw (again, called-turned w call e) (answers .1);
+          as-many = rw (again, called-turned w call e) (answers .1);
+          served = rw (again, called-turned w call e) (answers .2);
         }
 
     fails : sound w ≡ false → Undone w call other
     fails e =
         let one = called-unsound w call e in
         let two = called-unsound w other e in
-        record { same-record = rw (one, two); reversed = rw (one, two) (refl, refl, refl); served = rw (one, two) (λ f. f) }
+        record { same-record = rw (one, two); reversed = rw (one, two) (refl, refl, refl); as-many = rw (one, two); served = rw (one, two) (λ f. f) }

@@ -9,7 +9,7 @@ use lib.ListN.{length, replicate}
 use Rattle.stirling.specs.Refusal.{refuse, _then_, unless, within}
 use Rattle.stirling.specs.Count.{c, checkCycles}
 use Rattle.perm.specs.Permutation.{at, fixed, rotate}
-use Rattle.perm.specs.Array.{position, arrayOf}
+use Rattle.perm.specs.Array.{position, arrayOf, entriesChanged}
 use Rattle.gray.specs.Order.{Row, S}
 use Rattle.gray.specs.Listing.{rowAt, Positions}
 use Rattle.cursor.specs.declared.Cursor.{Cursor}
@@ -34,7 +34,7 @@ pub data Call : Type 0 where
   forward back show : Call
   jump : ℕ → Call
 
--- the calls that report three positions
+-- the calls that report three positions and how many entries changed
 pub data Steps : Call → Type 0 where
   onward : Steps forward
   backward : Steps back
@@ -132,19 +132,21 @@ bare r = record {
   i = 0;
   j = 0;
   l = 0;
+  changed = 0;
   place = 0;
   perm = replicate 20 0;
   array = replicate 20 0;
   fixed = 0;
 }
 
--- the three positions of a step from one row to the next
-abbrev pub stepped : Row → Row → Answer
-stepped old new = record {
+-- the three positions of a step from one row of n to the next, and, as document 02, n), has it, how many entries changed: those in which their arrays differ
+abbrev pub stepped : ℕ → Row → Row → Answer
+stepped n old new = record {
   refusal = 0;
   i = stepI old new;
   j = stepJ old new;
   l = stepL old new;
+  changed = entriesChanged n old new;
   place = 0;
   perm = replicate 20 0;
   array = replicate 20 0;
@@ -153,7 +155,7 @@ stepped old new = record {
 
 -- the record at another place, and the step from the row here to the row there
 abbrev pub stepTo : Machine → ℕ → Step
-stepTo m place = record { cursor = observe (moved m place); answer = stepped (rowOf m) (rowOf (moved m place)) }
+stepTo m place = record { cursor = observe (moved m place); answer = stepped (m .n) (rowOf m) (rowOf (moved m place)) }
 
 -- what show hands out: place, permutation, array, and, as document 02, e), has it, the number of fixed points of that permutation
 abbrev pub shown : Machine → Answer
@@ -162,16 +164,17 @@ shown m = record {
   i = 0;
   j = 0;
   l = 0;
+  changed = 0;
   place = m .place;
   perm = padded (rowOf m);
   array = padded (arrayOf (m .n) (rowOf m));
   fixed = fixed (rowOf m);
 }
 
--- the answer to a call that is not refused: three positions for forward and back, zeros for jump
+-- the answer to a call that is not refused: three positions and the entries changed for forward and back, zeros for jump
 abbrev pub given : Machine → Call → Answer
-given m forward = stepped (rowOf m) (rowOf (moved m (destination m forward)))
-given m back = stepped (rowOf m) (rowOf (moved m (destination m back)))
+given m forward = stepped (m .n) (rowOf m) (rowOf (moved m (destination m forward)))
+given m back = stepped (m .n) (rowOf m) (rowOf (moved m (destination m back)))
 given m (jump r) = bare 0
 given m show = shown m
 

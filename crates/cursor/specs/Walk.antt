@@ -97,10 +97,12 @@ pub record ShowsOther (w v : Cursor) : Type 0 where
   pub held : permutationOf w ≡ permutationOf v → ⊥
   pub shown : called w show .answer .perm ≡ called v show .answer .perm → ⊥
 
--- document 02, g): a call undoes another on a record: it hands the record back, with the three positions the other way round, and is refused only if the other was
+-- document 02, g): a call undoes another on a record: it hands the record back, with the three positions the other way round and as many entries changed, and is refused
+-- only if the other was
 pub record Undone (w : Cursor) (call other : Call) : Type 0 where
   pub same-record : called (called w call .cursor) other .cursor ≡ w
   pub reversed : Reversed (called w call .answer) (called (called w call .cursor) other .answer)
+  pub as-many : called (called w call .cursor) other .answer .changed ≡ called w call .answer .changed
   pub served : called w call .answer .refusal ≡ 0 → called (called w call .cursor) other .answer .refusal ≡ 0
 
 -- the record after so many forwards

@@ -6,8 +6,8 @@ ghost use lib.ListN.{length, getD, take};
 ghost use Rattle.stirling.specs.Refusal.{within};
 ghost use Rattle.stirling.specs.Count.{c, checkSize, checkPlace};
 ghost use Rattle.perm.specs.Lists.{same};
-ghost use Rattle.perm.specs.Permutation.{IsPermutation, fixed};
-ghost use Rattle.perm.specs.Array.{position, arrayOf};
+ghost use Rattle.perm.specs.Permutation.{IsPermutation, fixed, distance};
+ghost use Rattle.perm.specs.Array.{position, arrayOf, entriesChanged};
 ghost use Rattle.gray.specs.Order.{S};
 ghost use Rattle.gray.specs.Listing.{rowAt, Near};
 ghost use Rattle.cursor.specs.Machine.{padded, observe, rowOf, whole, stops, placeAfter, placeBefore, refusalOf, moved, firstFrom, bare, stepped, stepTo, forward, back, jump, show};
@@ -44,13 +44,14 @@ pub struct Cursor {
     pub array: [u8; 20],
 }
 
-// What a call answers beside the cursor: the refusal, the three positions of a step, and what show hands out, with the permutation's number of fixed points; zeros
-// where a call reports none.
+// What a call answers beside the cursor: the refusal, the three positions of a step, how many entries of the array it changed, and what show hands out, with the
+// permutation's number of fixed points; zeros where a call reports none.
 pub struct Answer {
     pub refusal: u8,
     pub i: u64,
     pub j: u64,
     pub l: u64,
+    pub changed: u64,
     pub place: u64,
     pub perm: [u8; 20],
     pub array: [u8; 20],
@@ -110,6 +111,7 @@ fn bare_answer(refusal: u8) -> Answer
         i: 0,
         j: 0,
         l: 0,
+        changed: 0,
         place: 0,
         perm: [0u8; 20],
         array: [0u8; 20],
@@ -258,10 +260,26 @@ fn position_of(v: u8, row: &[u8]) -> usize
     i
 }
 
-// The three positions of a step between neighbouring rows.
-fn step_between(old: &[u8], new: &[u8]) -> Answer
-    requires { ⌜ IsPermutation (length (now old)) (now old) × Near (length (now old)) (now old) (now new) ⌝ }
-    ensures { λ r. ⌜ r ≡ stepped (now (old .entry)) (now (new .entry)) ⌝ }
+// In how many bytes two slices of one length differ.
+fn differences(s: &[u8], t: &[u8]) -> u64
+    requires { ⌜ length (now s) ≡ length (now t) ⌝ }
+    ensures { λ r. ⌜ r ≡ distance (now (s .entry)) (now (t .entry)) ⌝ }
+{
+    let mut count = 0;
+    let mut i = 0;
+    while i < s.len() {
+        if s[i] != t[i] {
+            count += 1;
+        }
+        i += 1;
+    }
+    count
+}
+
+// The three positions of a step between neighbouring rows, with the number of entries in which their arrays differ.
+fn step_between(old: &[u8], new: &[u8], changed: u64) -> Answer
+    requires { ⌜ IsPermutation (length (now old)) (now old) × Near (length (now old)) (now old) (now new) × (changed ≡ entriesChanged (length (now old)) (now old) (now new)) ⌝ }
+    ensures { λ r. ⌜ r ≡ stepped (length (now (old .entry))) (now (old .entry)) (now (new .entry)) ⌝ }
 {
     let i = first_difference(old, new);
     let j = position_of(new[i - 1], old);
@@ -271,6 +289,7 @@ fn step_between(old: &[u8], new: &[u8]) -> Answer
         i: i as u64,
         j: j as u64,
         l: l as u64,
+        changed,
         place: 0,
         perm: [0u8; 20],
         array: [0u8; 20],
@@ -282,10 +301,8 @@ fn step_between(old: &[u8], new: &[u8]) -> Answer
 fn refused(w: Cursor, refusal: u8) -> Step
     ensures { λ r. ⌜ r ≡ record { cursor = w; answer = bare refusal } ⌝ }
 {
-    Step {
-        cursor: w,
-        answer: bare_answer(refusal),
-    }
+    let answer = bare_answer(refusal);
+    Step { cursor: w, answer }
 }
 
 // A step to a neighbouring place.
@@ -295,9 +312,12 @@ fn step_to(w: Cursor, place: u64) -> Step
 {
     let size = w.n as usize;
     let cursor = cursor_at(w.n, w.k, place, w.lowest, w.highest);
+    let before = w.array;
+    let after = cursor.array;
+    let changed = differences(&before[..size], &after[..size]);
     let old = w.perm;
     let new = cursor.perm;
-    let answer = step_between(&old[..size], &new[..size]);
+    let answer = step_between(&old[..size], &new[..size], changed);
     Step { cursor, answer }
 }
 
@@ -429,14 +449,14 @@ impl Cursor {
         }
     }
 
-    // To the next place, on the whole list from the last to place 0, with the three positions of the step. Refusals 8 and 9.
+    // To the next place, on the whole list from the last to place 0, with the three positions of the step and the number of entries changed. Refusals 8 and 9.
     pub fn forward(self) -> Step
         ensures { λ r. ⌜ r ≡ called self forward ⌝ }
     {
         section_step(self, true)
     }
 
-    // To the place before, on the whole list from place 0 to the last, with the three positions of the step. Refusals 8 and 10.
+    // To the place before, on the whole list from place 0 to the last, with the three positions of the step and the number of entries changed. Refusals 8 and 10.
     pub fn back(self) -> Step
         ensures { λ r. ⌜ r ≡ called self back ⌝ }
     {
@@ -476,6 +496,7 @@ impl Cursor {
             i: 0,
             j: 0,
             l: 0,
+            changed: 0,
             place: self.place,
             perm,
             array,

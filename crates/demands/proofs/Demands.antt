@@ -15,19 +15,22 @@ use Rattle.stirling.proofs.Counts.{size-passes, cycles-passes, cycles-passed, f
 use Rattle.perm.specs.Lists.{tally, positions}
 use Rattle.perm.specs.Permutation.{IsPermutation, IsPartial, at, fixed, exchange, distance}
 use Rattle.perm.specs.Cycle.{cycles, follow}
-use Rattle.perm.specs.Array.{IsArray, IsArrayOf, product, position}
+use Rattle.perm.specs.Array.{IsArray, IsArrayOf, product, position, entriesChanged}
 use Rattle.perm.specs.declared.Array.{Array}
 use Rattle.perm.specs.Checks.{checkToArray, checkPermutation, ToArray}
 use Rattle.perm.specs.Pairs.{Pair, bytesOf, front, pairsIn}
 use Rattle.perm.proofs.Arrays.{product-permutation, has-array, one-array, cycles-product}
 use Rattle.perm.proofs.Apart as Apart
-use Rattle.perm.proofs.Cases as FixedPoints
+use Rattle.perm.proofs.Distance.{changed-arrays}
+use Rattle.perm.proofs.Cases as PermCases
 use Rattle.gray.specs.declared.Block.the-variants.{Extend as E}
 use Rattle.gray.specs.Order.{Row, S, letter}
 use Rattle.gray.specs.Blocks.{blocks}
 use Rattle.gray.specs.Listing.{rowAt, HasCycles, Complete, Neighbours, Closed}
+use Rattle.gray.specs.Threes.{threes, t}
 use Rattle.gray.proofs.Once as Once
 use Rattle.gray.proofs.Neighbours as Neighbours
+use Rattle.gray.proofs.Entries as Entries
 use Rattle.gray.proofs.Cases as Cases
 use Rattle.rank.specs.Search.{readingOf, cyclesOf, sizeOf, blocksRead, rowsRead, before}
 use Rattle.rank.specs.Descent.{step, blockWith, shorter, passed}
@@ -103,6 +106,7 @@ use Rattle.cursor.specs.Walk.{machineOf, sound, called, start, startOf, checkOp
 use Rattle.cursor.proofs.Calls as Calls
 use Rattle.cursor.proofs.Steps as Steps
 use Rattle.cursor.proofs.Reported.{shown-number, no-number}
+use Rattle.cursor.proofs.Changed as Changed
 use Rattle.cursor.proofs.Undone.{undone, by-back, by-forward}
 use Rattle.cursor.proofs.Round as Round
 use Rattle.cursor.proofs.Sections as Sections
@@ -160,8 +164,8 @@ fixed-entries = cycles-product
 -- ---- Demand 3, first half: every list of calls
 
 -- for either open that is not refused, of the whole list or, as document 02, h), has it, of a section, and every list of calls after it, each call getting the record
--- that the one before handed back: after the open and after each call, the record, with both bounds, and the answer (refusal, three positions, what show hands out, the
--- number of fixed points with it) are the plain machine's. One claim about the whole list
+-- that the one before handed back: after the open and after each call, the record, with both bounds, and the answer (refusal, three positions, the number of entries
+-- changed, what show hands out, the number of fixed points with it) are the plain machine's. One claim about the whole list
 pub calls : (opening : Opening) → checkOpening opening ≡ 0 → (cs : List Call) → walkRun opening cs ≡ plainRun opening cs
 calls = Calls.calls
 
@@ -319,8 +323,8 @@ pub fixed-silent : (w : Cursor) (call : Call) → (call ≡ show → ⊥) ⊎ (c
 fixed-silent = no-number
 
 -- examples: fixed points and fixed entries of the array are two numbers
-pub fixed-cases : FixedPoints.Table
-fixed-cases = FixedPoints.table
+pub fixed-cases : PermCases.Table
+fixed-cases = PermCases.table
 
 -- ---- Document 02, f): an array read as an inversion table: entry i is one more than the number of earlier elements of the sequence that are higher than the i-th
 
@@ -674,3 +678,47 @@ zeros-refused = Rewriting.zeros-refused
 -- `0`, `00`, `04`, zeros that do not lead, 19 and 20 digits, numbers out of range, and texts that are no sheet
 pub sheet-cases : SheetCases.Table
 sheet-cases = SheetCases.table
+
+-- ---- Document 02, n): entries changed on the board
+
+-- `entriesChanged n s u` is on how many entries the arrays of two permutations of n differ, whatever arrays of them are named
+pub entries-of-arrays : {n : ℕ} {s u p q : List ℕ} → IsPermutation n s → IsPermutation n u → IsArrayOf s p → IsArrayOf u q → entriesChanged n s u ≡ distance p q
+entries-of-arrays g h = changed-arrays g h
+
+-- for all n and k: the arrays of neighbours in S(n,k) differ in at most three entries
+pub at-most-three : (n k place : ℕ) → suc place < length (S n k) → entriesChanged n (rowAt (S n k) place) (rowAt (S n k) (suc place)) ≤ 3
+at-most-three = Entries.at-most-three
+
+-- the number of neighbours, ring step left out, whose arrays differ in exactly three is t(n,k)
+pub exactly-three : (n k : ℕ) → threes n (S n k) ≡ t n k
+exactly-three = Entries.exactly-three
+
+-- the ring step, from the last row to the first, changes at most three as well
+pub ring-at-most-three : (n k : ℕ) → 2 ≤ length (S n k) → entriesChanged n (rowAt (S n k) (length (S n k) - 1)) (rowAt (S n k) 0) ≤ 3
+ring-at-most-three = Entries.ring-at-most-three
+
+-- 6 for n = 6 and k = 2, as t has it and as they are counted in the list; the edges of t; and the step of S(5,2) that changes three
+pub threes-cases : Cases.Threes
+threes-cases = Cases.threes-table
+
+-- entries changed and positions changed are two numbers
+pub changed-cases : PermCases.Changes
+changed-cases = PermCases.changes
+
+-- from every place of every section, the ring step of the whole list among them: forward and back that are not refused report on how many entries the array of the new
+-- permutation differs from that of the old one, and that is one, two or three
+pub changed-reported : (m : Machine) (call : Call) → InSection m → Steps call → refusalOf m call ≡ 0
+    → (answered m call .changed ≡ entriesChanged (m .n) (rowOf m) (rowOf (turn m call))) × (1 ≤ answered m call .changed) × (answered m call .changed ≤ 3)
+changed-reported m call inside kind e =
+    (Changed.changed m call kind e, Changed.changed-at-least-one m call inside kind e, Changed.changed-at-most-three m call inside kind e)
+
+-- whatever record is handed in, they report in how many bytes the array that is handed back differs from the one that was handed in
+pub changed-on-records : (w : Cursor) (call : Call) → Steps call → called w call .answer .changed ≡ distance (w .array) (called w call .cursor .array)
+changed-on-records = Changed.changed-records
+
+-- jump, show and every refusal report 0, and so does either open, refused or not
+pub changed-silent : (w : Cursor) (call : Call) → (Steps call → ⊥) ⊎ (called w call .answer .refusal ≡ 0 → ⊥) → called w call .answer .changed ≡ 0
+changed-silent = Changed.none-changed
+
+pub changed-opening : (opening : Opening) → opened opening .answer .changed ≡ 0
+changed-opening = Changed.open-none-changed

@@ -5,11 +5,12 @@ use mathlib.Core.List.{List, [], _∷_}
 use lib.ListN.{length}
 use Rattle.stirling.specs.Count.{c, checkSize, checkCycles, checkPlace}
 use Rattle.perm.specs.Lists.{tally, range}
-use Rattle.perm.specs.Permutation.{extend, insert, exchange, rotate}
-use Rattle.perm.specs.Array.{IsArrayOf, partial, product}
+use Rattle.perm.specs.Permutation.{extend, insert, exchange, rotate, distance}
+use Rattle.perm.specs.Array.{IsArrayOf, partial, product, position, arrayOf, entriesChanged}
 use Rattle.perm.specs.Checks.{checkEntries}
 use Rattle.gray.specs.Order.{S, relation, relationA, relationB, relationC, relationD, relationE, letter, joined, rows, reading, odd, rising, falling}
 use Rattle.gray.specs.Listing.{rowAt}
+use Rattle.gray.specs.Threes.{pairs, threes, t}
 use Rattle.perm.proofs.Checked.{checked-array}
 
 -- document 01's table "What is proved of the cases", line by line, with n = 0 as document 02, a), has it: a fact's name has n, k and the place
@@ -61,6 +62,23 @@ pub record Table : Type 0 where
   pub place-5-2-49 : checkPlace 5 2 49 ≡ 0
   pub place-5-2-50 : checkPlace 5 2 50 ≡ 3
 
+-- document 02, n)'s case, 6 for n = 6 and k = 2, and its edges; t is 0 up to n = 4 and for k = 0, and 1 more for k = 2. At 5,2 the one step that changes three
+-- entries is that from 38 to 39, between the arrays 11135 and 12122
+pub record Threes : Type 0 where
+  pub t-6-2 : t 6 2 ≡ 6
+  pub t-4-2 : t 4 2 ≡ 0
+  pub t-5-0 : t 5 0 ≡ 0
+  pub t-5-1 : t 5 1 ≡ 0
+  pub t-5-2 : t 5 2 ≡ 1
+  pub t-6-3 : t 6 3 ≡ 1
+  pub t-7-3 : t 7 3 ≡ 12
+  pub counted-4-2 : threes 4 (S 4 2) ≡ 0
+  pub counted-5-2 : threes 5 (S 5 2) ≡ 1
+  pub counted-6-2 : threes 6 (S 6 2) ≡ 6
+  pub changed-5-2-37 : entriesChanged 5 (rowAt (S 5 2) 37) (rowAt (S 5 2) 38) ≡ 1
+  pub changed-5-2-38 : entriesChanged 5 (rowAt (S 5 2) 38) (rowAt (S 5 2) 39) ≡ 3
+  pub changed-5-2-ring : entriesChanged 5 (rowAt (S 5 2) 49) (rowAt (S 5 2) 0) ≡ 1
+
 -- p is the array of s: its entries pass check 6, and its product is s
 array-of : (s p : List ℕ) → length p ≡ length s → checkEntries p ≡ 0 → product p ≡ s → IsArrayOf s p
 array-of s p l e q = record { array = rw (← l) (checked-array p e); equal = q }
@@ -100,4 +118,23 @@ table =
       place-0-0-1 = refl;
       place-5-2-49 = refl;
       place-5-2-50 = refl;
+    }
+
+pub threes-table : Threes
+unfolding S relation relationA relationB relationC relationD relationE letter joined rows reading odd rising falling range tally insert extend exchange position arrayOf distance pairs threes t
+threes-table =
+    record {
+      t-6-2 = refl;
+      t-4-2 = refl;
+      t-5-0 = refl;
+      t-5-1 = refl;
+      t-5-2 = refl;
+      t-6-3 = refl;
+      t-7-3 = refl;
+      counted-4-2 = refl;
+      counted-5-2 = refl;
+      counted-6-2 = refl;
+      changed-5-2-37 = refl;
+      changed-5-2-38 = refl;
+      changed-5-2-ring = refl;
     }

@@ -5,7 +5,7 @@ use mathlib.Core.Logic.{inl, inr}
 use Prim.Native.Nat.{ℕ, zero, suc, _+_, _-_, _≤_, _<_}
 use native.Mathlib.Omega.{arith}
 use mathlib.Core.Bool.{Bool, true, false, cond}
-use mathlib.Core.List.{List, [], _∷_, _++_, reverse}
+use mathlib.Core.List.{List, [], _∷_, reverse}
 use lib.Dec.{eqb}
 use borrow.Author.Tests.{ne-eqb}
 use Rattle.perm.specs.Lists.{tally}
@@ -18,15 +18,7 @@ use Rattle.perm.proofs.Tally.{tally-append, tally-map, tally-reverse}
 use Rattle.gray.proofs.Which.{Which, is-none, is-a, is-b, is-c, is-d, is-e, which}
 use Rattle.gray.proofs.Joined.{S-blocks, S-zero, S-beyond}
 use Rattle.gray.proofs.Sum.{sum, sum-zero}
-
--- what a block adds to a count, where f i is counted in I(i,L) and e in E(M)
-weight : (ℕ → ℕ) → ℕ → Block → ℕ
-weight f e (I i _) = f i
-weight f e (E _) = e
-
-total : (ℕ → ℕ) → ℕ → List Block → ℕ
-total f e [] = 0
-total f e (b ∷ bs) = weight f e b + total f e bs
+use Rattle.gray.proofs.Total.{weight, total, total-append}
 
 -- the direction of a reading does not matter
 tally-reading : (p : Row → Bool) (e : ℕ) (L : List Row) → tally p (reading e L) ≡ tally p L
@@ -51,11 +43,6 @@ module _ (p : Row → Bool) (n : ℕ) (L M : List Row) where
 
 -- the blocks of each relation have each insertion once, and the extension once
 module _ (f : ℕ → ℕ) (e : ℕ) where
-  total-append : (bs ds : List Block) → total f e (bs ++ ds) ≡ total f e bs + total f e ds
-  unfolding total
-  total-append [] ds = omega arith
-  total-append (b ∷ bs) ds = omega (arith, total-append bs ds)
-
   -- insertions at a, a−1, …, b+1, with any readings
   total-falling : (g : ℕ → ℕ) (c a b : ℕ) → b + c ≡ a → total f e (falling (λ i. I i (g i)) a c) + sum f b ≡ sum f a
   unfolding total falling weight sum
@@ -109,7 +96,7 @@ module _ (f : ℕ → ℕ) (e : ℕ) where
       (arith, total-falling (λ i. i) (suc m - (k + 1)) m k (omega arith), total-falling (λ i. i - 1) (suc k - 2) k 1 (omega arith)))
 
   -- where the blocks lack the extension (k = 0 or k > m) or the insertions (k ≥ m), there is nothing to count
-  total-blocks : (m k : ℕ)
+  pub total-blocks : (m k : ℕ)
       → (k ≡ 0 → 1 ≤ m → e ≡ 0)
       → (m < k → e ≡ 0)
       → (m ≤ k → sum f m ≡ 0)

@@ -1,50 +1,15 @@
--- The first and the last row of S(k+d,k) as functions, how they change from k to k+1, and the steps between them. Assumes nothing.
-use mathlib.Core.Path.{_≡_, refl, sym, ap, _∙_}
-use Prim.Native.Nat.{ℕ, zero, suc, _+_, _-_, _≤_, _<_, max}
+-- The first and the last row of S(k+d,k) as ends of a run, and the steps that a kind of run has between them. Assumes nothing.
+use mathlib.Core.Path.{_≡_, refl, ap}
+use Prim.Native.Nat.{ℕ, zero, suc, _+_, _-_, _≤_}
 use native.Mathlib.Omega.{arith}
-use Rattle.gray.proofs.Exchange.{_·_, same, swap, swap-sym, swap-apart, swap-round}
-use Rattle.gray.proofs.Step.{Step, star, step-position, step-twice}
-
--- the first row of S(k+d,k): ⟨1,k+1⟩·⟨1,k+2⟩·…·⟨1,k+d⟩
-unfoldable pub first : ℕ → ℕ → ℕ → ℕ
-first k zero = same
-first k (suc d) = first k d · swap 1 (suc (k + d))
+use lib.Dec.{eqb}
+use Rattle.perm.specs.Lists.{one}
+use Rattle.gray.proofs.Run.{Kind, end}
 
 -- where the last row of S(n,k), n = k+d+2, has the value n: at 3 for k = 1 and n ≥ 4, otherwise at 2
 unfoldable pub place : ℕ → ℕ → ℕ
 place k zero = 2
 place k (suc d) = 2 + (2 - k)
-
--- the last row of S(k+d,k)
-unfoldable pub last : ℕ → ℕ → ℕ → ℕ
-last k zero = same
-last k (suc zero) = swap 1 (max k 2)
-last k (suc (suc d)) = first k (suc d) · swap (place k d) (suc (k + suc d))
-
--- with one value more, n + 1
-pub first-next : (k d n : ℕ) → k + d ≡ n → first k (suc d) ≡ first k d · swap 1 (suc n)
-unfolding first
-first-next k d n e = rw e
-
-pub last-next : (k d n : ℕ) → k + suc d ≡ n → last k (suc (suc d)) ≡ first k (suc d) · swap (place k d) (suc n)
-unfolding last
-last-next k d n e = rw e
-
--- small cases, written out
-pub first-one : (k : ℕ) → first k 1 ≡ swap 1 (suc k)
-unfolding first
-first-one k = let p : k + 0 ≡ k = omega arith in rw p
-
-pub first-two : (k : ℕ) → first k 2 ≡ swap 1 (suc k) · swap 1 (suc (suc k))
-first-two k = first-next k 1 (suc k) (omega arith) ∙ ap (λ f. f · swap 1 (suc (suc k))) (first-one k)
-
-pub last-one : (k : ℕ) → 2 ≤ k → last k 1 ≡ swap 1 k
-unfolding last
-last-one k h = let p : max k 2 ≡ k = omega arith in rw p
-
-pub last-two : (k : ℕ) → last k 2 ≡ swap 1 (suc k) · swap 2 (suc (suc k))
-unfolding place
-last-two k = last-next k 0 (suc k) (omega arith) ∙ ap (λ f. f · swap 2 (suc (suc k))) (first-one k)
 
 -- 2 ≤ place < n
 pub place-in : (k d : ℕ) → 1 ≤ k → (2 ≤ place k d) × (place k d ≤ k + suc d)
@@ -58,58 +23,80 @@ unfolding place
 place-two k zero h = refl
 place-two k (suc d) h = omega arith
 
--- the first row of S(n,k) is that of S(n,k+1) with positions k + 1 and k + 2 exchanged, for n ≥ k + 2
-pub first-less : (k d : ℕ) → 1 ≤ k → first k (suc (suc d)) ≡ first (suc k) (suc d) · swap (suc k) (suc (suc k))
-unfolding first
-first-less k zero h =
-    let p : k + 0 ≡ k = omega arith in
-    let q : k + 1 ≡ suc k = omega arith in
-    let r : suc k + 0 ≡ suc k = omega arith in
-    rw (p, q, r)
-    (sym (swap-round same 1 (suc (suc k)) (suc k) (omega arith)) ∙ ap (λ w. swap 1 (suc (suc k)) · w) (swap-sym (suc (suc k)) (suc k)))
-first-less k (suc d) h =
-    let n = k + suc (suc d) in
-    first-next k (suc (suc d)) n refl
-    ∙ ap (λ f. f · swap 1 (suc n)) (first-less k d h)
-    ∙ swap-apart (first (suc k) (suc d)) (suc k) (suc (suc k)) 1 (suc n) (omega arith)
-    ∙ ap (λ f. f · swap (suc k) (suc (suc k))) (sym (first-next (suc k) (suc d) n (omega arith)))
+module _ (K : Kind) where
+  -- (1,2,…,n): E again and again
+  unfoldable pub identity : ℕ → K .End
+  identity zero = K .none
+  identity (suc n) = K .extended (suc n) (identity n)
 
--- the same at the value n of the last rows
-place-past : (γ : ℕ → ℕ) (k d n : ℕ) → 1 ≤ k → suc (suc k) < n
-    → γ · swap (suc k) (suc (suc k)) · swap (place k (suc d)) n ≡ γ · swap 2 n · swap (suc k) (suc (suc k))
-unfolding place
-place-past γ zero d n h l = absurd (omega arith)
-place-past γ (suc zero) d n h l = swap-round γ 2 3 n (omega arith)
-place-past γ (suc (suc k)) d n h l =
-    let e : 2 + (2 - suc (suc k)) ≡ 2 = omega arith in
-    rw e (swap-apart γ (suc (suc (suc k))) (suc (suc (suc (suc k)))) 2 n (omega arith))
+  -- the first row of S(k+d,k): (1,2,…,k), then I(1,·) d times
+  unfoldable pub first : ℕ → ℕ → K .End
+  first k zero = identity k
+  first k (suc d) = K .inserted (suc (k + d)) 1 (first k d)
 
--- and so are the last rows, for n ≥ k + 3
-pub last-less : (k d : ℕ) → 1 ≤ k → last k (suc (suc (suc d))) ≡ last (suc k) (suc (suc d)) · swap (suc k) (suc (suc k))
-last-less k d h =
-    let n = k + suc (suc d) in
-    last-next k (suc d) n refl
-    ∙ ap (λ f. f · swap (place k (suc d)) (suc n)) (first-less k d h)
-    ∙ place-past (first (suc k) (suc d)) k d (suc n) h (omega arith)
-    ∙ sym
-    (ap (λ f. f · swap (suc k) (suc (suc k))) (last-next (suc k) d n (omega arith))
-    ∙ ap (λ p. first (suc k) (suc d) · swap p (suc n) · swap (suc k) (suc (suc k))) (place-two (suc k) d (omega arith)))
+  -- the last row of S(k+1,k): E of the first row of S(k,k−1) for k ≥ 2; S(2,1) has one row
+  unfoldable pub lastOne : ℕ → K .End
+  lastOne zero = first 0 1
+  lastOne (suc zero) = first 1 1
+  lastOne (suc (suc k)) = K .extended (suc (suc (suc k))) (first (suc k) 1)
 
--- from the last row to the first, n = k + 1
-pub step-one : (k : ℕ) → 2 ≤ k → Step (suc k) (last k 1) (first k 1)
-step-one k h = star same 1 k (suc k) (omega arith) (last-one k h) (first-one k)
+  -- the last row of S(k+d,k)
+  unfoldable pub last : ℕ → ℕ → K .End
+  last k zero = identity k
+  last k (suc zero) = lastOne k
+  last k (suc (suc d)) = K .inserted (suc (k + suc d)) (place k d) (first k (suc d))
 
--- from the last row to the first, n ≥ k + 2
-pub step-ring : (k d n : ℕ) → (k + suc d ≡ n) × (1 ≤ k) → Step (suc n) (last k (suc (suc d))) (first k (suc (suc d)))
-step-ring k d n h =
-    let p : (2 ≤ place k d) × (place k d ≤ k + suc d) = place-in k d (h .1) in
-    rw (last-next k d n (h .0), first-next k (suc d) n (h .0)) (step-position (first k (suc d)) (place k d) 1 (omega arith))
+  -- with one value more, n + 1
+  pub first-next : (k d n : ℕ) → k + d ≡ n → first k (suc d) ≡ K .inserted (suc n) 1 (first k d)
+  unfolding first
+  first-next k d n e = ap (λ m. K .inserted (suc m) 1 (first k d)) e
 
--- from I(1,·) of the last row to I(n,·) of the first
-pub step-turn : (k d n : ℕ) → (k + suc (suc d) ≡ n) × (1 ≤ k)
-    → Step (suc n) (last k (suc (suc d)) · swap 1 (suc n)) (first k (suc (suc d)) · swap n (suc n))
-step-turn k d zero h = absurd (omega arith)
-step-turn k d (suc m) h =
-    let p : (2 ≤ place k d) × (place k d ≤ k + suc d) = place-in k d (h .1) in
-    rw (last-next k d m (omega arith), first-next k (suc d) m (omega arith))
-    (step-twice (first k (suc d)) (place k d) 1 (suc m) (omega arith) (omega arith))
+  pub last-next : (k d n : ℕ) → k + suc d ≡ n → last k (suc (suc d)) ≡ K .inserted (suc n) (place k d) (first k (suc d))
+  unfolding last
+  last-next k d n e = ap (λ m. K .inserted (suc m) (place k d) (first k (suc d))) e
+
+  -- the last row of S(n,n−1), n ≥ 3
+  pub last-one : (k : ℕ) → last (suc (suc k)) 1 ≡ K .extended (suc (suc (suc k))) (first (suc k) 1)
+  unfolding last lastOne
+  last-one k = refl
+
+  -- from I(1,·) of the last row to I(n,·) of the first
+  pub step-turn : (k d n : ℕ) → (k + suc (suc d) ≡ n) × (1 ≤ k)
+      → K .Step (suc n) 0 (K .inserted (suc n) 1 (last k (suc (suc d)))) (K .inserted (suc n) n (first k (suc (suc d))))
+  step-turn k d zero h = absurd (omega arith)
+  step-turn k d (suc m) h =
+      let p : (2 ≤ place k d) × (place k d ≤ k + suc d) = place-in k d (h .1) in
+      rw (last-next k d m (omega arith), first-next k (suc d) m (omega arith))
+      (K .step-twice (first k (suc d)) (place k d) 1 (suc m) (omega arith) (omega arith))
+
+  -- from the last row to the first, n ≥ k + 2
+  pub step-ring : (k d n : ℕ) → (k + suc d ≡ n) × (1 ≤ k) → K .Step (suc n) 0 (last k (suc (suc d))) (first k (suc (suc d)))
+  step-ring k d n h =
+      let p : (2 ≤ place k d) × (place k d ≤ k + suc d) = place-in k d (h .1) in
+      rw (last-next k d n (h .0), first-next k (suc d) n (h .0)) (K .step-position (first k (suc d)) (place k d) 1 (omega arith))
+
+-- the other steps, for the kind at hand
+pub record Seams (K : Kind) : Type 0 where
+  -- (c), n = 3: from I(2,·) to E
+  pub c-three : K .Step 3 0 (K .inserted 3 2 (identity K 2)) (K .extended 3 (first K 1 1))
+  -- (c), n = j + 3 ≥ 4: from I(n−2,·) to E of M's last row
+  pub c-more : (j : ℕ) → 1 ≤ j
+      → K .Step (suc (suc (suc j))) 0 (K .inserted (suc (suc (suc j))) (suc j) (identity K (suc (suc j)))) (K .extended (suc (suc (suc j))) (last K (suc j) 1))
+  -- (d), n = j + 3, where M = S(n−1,j): from I(n−1,·) of L's first row, or of its last, to E of M's first, and from E of M's last to I(2,·) of L's last
+  pub d-first : (j : ℕ) → 1 ≤ j
+      → K .Step (suc (suc (suc j))) 0 (K .inserted (suc (suc (suc j))) (suc (suc j)) (first K (suc j) 1)) (K .extended (suc (suc (suc j))) (first K j 2))
+  pub d-last : (j : ℕ) → 1 ≤ j
+      → K .Step (suc (suc (suc j))) 0 (K .inserted (suc (suc (suc j))) (suc (suc j)) (last K (suc j) 1)) (K .extended (suc (suc (suc j))) (first K j 2))
+  pub d-back : (j : ℕ) → 1 ≤ j
+      → K .Step (suc (suc (suc j))) 0 (K .extended (suc (suc (suc j))) (last K j 2)) (K .inserted (suc (suc (suc j))) 2 (last K (suc j) 1))
+  -- (e), for n + 1, where k = j + 1 and M = S(n,j): from I(k+1,·) to E, and from E to I(k,·), which counts for k = 2
+  pub e-to : (j d n : ℕ) → (suc j + suc (suc d) ≡ n) × (1 ≤ j)
+      → K .Step (suc n) 0
+      (K .inserted (suc n) (suc (suc j)) (end (suc j) (first K (suc j) (suc (suc d))) (last K (suc j) (suc (suc d)))))
+      (K .extended (suc n) (end (suc j) (first K j (suc (suc (suc d)))) (last K j (suc (suc (suc d))))))
+  pub e-from : (j d n : ℕ) → (suc j + suc (suc d) ≡ n) × (1 ≤ j)
+      → K .Step (suc n) (one (eqb (suc j) 2))
+      (K .extended (suc n) (end (suc (suc j)) (first K j (suc (suc (suc d)))) (last K j (suc (suc (suc d))))))
+      (K .inserted (suc n) (suc j) (end (suc (suc j)) (first K (suc j) (suc (suc d))) (last K (suc j) (suc (suc d)))))
+  -- from the last row of S(n,n−1) to the first, n = j + 2 ≥ 3
+  pub ring-one : (j : ℕ) → 1 ≤ j → K .Step (suc (suc j)) 0 (last K (suc j) 1) (first K (suc j) 1)

@@ -1,3 +1,4 @@
 pub mod Order
 pub mod Blocks
 pub mod Listing
+pub mod Threes

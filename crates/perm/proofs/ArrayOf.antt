@@ -52,7 +52,7 @@ without-insert {m} {γ} i h k p =
     record { here = e; left = rw (e, top, set-set, set-getD, take-at γ _ m (p .size)) }
 
 -- so the array has one entry more
-array-without : {m i : ℕ} {s γ : List ℕ} → Without m s i γ → arrayOf (suc m) s ≡ arrayOf m γ ++ (i ∷ [])
+pub array-without : {m i : ℕ} {s γ : List ℕ} → Without m s i γ → arrayOf (suc m) s ≡ arrayOf m γ ++ (i ∷ [])
 unfolding arrayOf
 array-without w = rw (w .left, w .here)
 

@@ -25,11 +25,11 @@ length-partial n p zero = length-range 1 n
 length-partial n p (suc m) = length-exchange (at p (suc m)) (suc m) (partial n p m) ∙ length-partial n p m
 
 -- an entry before the last
-at-low : (p : List ℕ) (x i : ℕ) → 1 ≤ i → i ≤ length p → at (p ++ (x ∷ [])) i ≡ at p i
+pub at-low : (p : List ℕ) (x i : ℕ) → 1 ≤ i → i ≤ length p → at (p ++ (x ∷ [])) i ≡ at p i
 at-low p x i h k = List·getD-append p (x ∷ []) 0 (i - 1) (omega arith)
 
 -- the last entry
-at-last : {n : ℕ} (p : List ℕ) (x : ℕ) → length p ≡ n → at (p ++ (x ∷ [])) (suc n) ≡ x
+pub at-last : {n : ℕ} (p : List ℕ) (x : ℕ) → length p ≡ n → at (p ++ (x ∷ [])) (suc n) ≡ x
 at-last {n} p x e =
     let y : suc n - 1 ≡ n = omega arith in
     rw (y, getD-at p x [] 0 n)

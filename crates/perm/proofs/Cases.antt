@@ -1,10 +1,10 @@
--- Fixed points and fixed entries of the array are two numbers: examples, by computation. Assumes nothing.
+-- Fixed points and fixed entries of the array are two numbers, and so are positions and entries on which two differ: examples, by computation. Assumes nothing.
 use mathlib.Core.Path.{_≡_, refl}
 use mathlib.Core.List.{[], _∷_}
 use Rattle.perm.specs.Lists.{tally, range}
-use Rattle.perm.specs.Permutation.{exchange, fixed}
+use Rattle.perm.specs.Permutation.{exchange, fixed, distance}
 use Rattle.perm.specs.Cycle.{follow, least, cycles}
-use Rattle.perm.specs.Array.{position, arrayOf}
+use Rattle.perm.specs.Array.{position, arrayOf, entriesChanged}
 
 pub record Table : Type 0 where
   -- 31425 has one fixed point, and its array 11135 two fixed entries, as many as it has cycles
@@ -37,4 +37,24 @@ table =
       fixed-123 = refl;
       fixed-21 = refl;
       fixed-nothing = refl;
+    }
+
+pub record Changes : Type 0 where
+  -- 23415 and 31425 differ on three positions, and their arrays 11235 and 11135 in one entry; those of 31425 and 35124, 11135 and 12122, in three
+  pub positions-23415 : distance (2 ∷ 3 ∷ 4 ∷ 1 ∷ 5 ∷ []) (3 ∷ 1 ∷ 4 ∷ 2 ∷ 5 ∷ []) ≡ 3
+  pub changed-23415 : entriesChanged 5 (2 ∷ 3 ∷ 4 ∷ 1 ∷ 5 ∷ []) (3 ∷ 1 ∷ 4 ∷ 2 ∷ 5 ∷ []) ≡ 1
+  pub changed-31425 : entriesChanged 5 (3 ∷ 1 ∷ 4 ∷ 2 ∷ 5 ∷ []) (3 ∷ 5 ∷ 1 ∷ 2 ∷ 4 ∷ []) ≡ 3
+  -- the same permutation changes none, and nothing has none
+  pub changed-same : entriesChanged 3 (3 ∷ 1 ∷ 2 ∷ []) (3 ∷ 1 ∷ 2 ∷ []) ≡ 0
+  pub changed-nothing : entriesChanged 0 [] [] ≡ 0
+
+pub changes : Changes
+unfolding distance tally range exchange position arrayOf
+changes =
+    record {
+      positions-23415 = refl;
+      changed-23415 = refl;
+      changed-31425 = refl;
+      changed-same = refl;
+      changed-nothing = refl;
     }

@@ -16,5 +16,6 @@ pub mod Refused
 pub mod Search
 pub mod Counting
 pub mod Apart
+pub mod Distance
 pub mod Steps
 pub mod Cases

@@ -6,7 +6,7 @@ use mathlib.Core.List.{List, [], _∷_, _++_}
 use lib.Dec.{eqb}
 use lib.ListN.{length, take}
 use Rattle.perm.specs.Lists.{positions}
-use Rattle.perm.specs.Permutation.{at, exchange}
+use Rattle.perm.specs.Permutation.{at, exchange, distance}
 
 -- n entries with 1 ≤ pi ≤ i
 pub record IsArray (n : ℕ) (p : List ℕ) : Type 0 where
@@ -37,3 +37,7 @@ position v (x ∷ xs) = cond (eqb v x) 1 (suc (position v xs))
 unfoldable pub arrayOf : ℕ → List ℕ → List ℕ
 arrayOf zero s = []
 arrayOf (suc m) s = arrayOf m (take m (exchange (position (suc m) s) (suc m) s)) ++ (position (suc m) s ∷ [])
+
+-- document 02, n)'s entries changed: on how many entries the arrays of two permutations of n differ
+abbrev pub entriesChanged : ℕ → List ℕ → List ℕ → ℕ
+entriesChanged n s t = distance (arrayOf n s) (arrayOf n t)

@@ -38,7 +38,7 @@ exchange a b s = put (put s a (at s b)) b (at s a)
 unfoldable pub rotate : List ℕ → ℕ → ℕ → ℕ → List ℕ
 rotate s i j l = put (put (put s i (at s j)) j (at s l)) l (at s i)
 
--- on how many positions two permutations differ
+-- on how many positions two permutations differ; two arrays likewise, on how many entries
 unfoldable pub distance : List ℕ → List ℕ → ℕ
 distance s t = tally (λ i. not (eqb (at s i) (at t i))) (positions (length s))
 

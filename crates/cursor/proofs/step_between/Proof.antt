@@ -55,12 +55,13 @@ position-of-requires-2 c κs = search needs
 
 returns : tie.Need-returns
 returns c =
-    let a = c .before .before .before .before .before .before .before .args in
+    let start = c .before .before .before .before .before .before .before in
+    let a = start .args in
     let i = c .before .before .before .before .first-difference .ensures in
     let j = second (c .before .before) in
     let l : c .position-of2 .result ≡ stepL (now (a .old)) (now (a .new)) =
     c .position-of2 .ensures ∙ ap (λ j. position (at (now (a .new)) j) (now (a .old))) j in
-    rw (i, j, l)
+    rw (i, j, l, start .pre .2)
 
 pub step-between-spec : {M : Type 1} → statement M
 step-between-spec =
