@@ -1,4 +1,6 @@
 // Permutations and their transposition arrays, as byte slices: the checks 5, 6 and 7, and the calls from one to the other.
+#![tactic(auto)]
+
 ghost use Rattle.std.specs.Prelude.{◌≡◌, ℕ, ◌≤◌, ◌<◌, length, get_or};
 ghost use Rattle.stirling.specs.Refusal.{within, ◌then◌};
 ghost use Rattle.stirling.specs.Count.{check_size};

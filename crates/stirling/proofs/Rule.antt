@@ -1,22 +1,26 @@
--- The rule of a flat table of the counts with k ≤ n ≤ 20: one test, which antt computes, that each entry follows from those of the row before by the recurrence; and the law
+-- The rule of a flat table of 21 × 21 counts: one test, which antt computes, that each entry follows from those of the row before by the recurrence; and the law
 -- that a table that passes it holds the counts. Assumes nothing.
 use Prim.Native.Nat.{ℕ, zero, suc, ◌+◌, ◌*◌, ◌≤◌, ◌<◌}
 use native.Mathlib.Omega.{arith}
-use native.Mathlib.Nat.{mul-le-mul}
 use mathlib.Core.Path.{◌≡◌, refl, sym, ◌∙◌}
 use mathlib.Core.Bool.{Bool, true, false, ◌&&◌}
 use mathlib.Core.List.{List}
 use lib.Dec.{T, eqb, eqb→eq, leb}
-use borrow.Author.Tests.{leb-true, leb-false, le-leb, lt-leb}
+use lib.ListN.{get_or}
+use borrow.Author.Tests.{leb-true, leb-false, le-leb}
 use Rattle.stirling.specs.Count.{c, entry_of, IsTable}
 use Rattle.stirling.proofs.Counts.{above}
 
+-- the entry for n and k up to 20
+abbrev entry : List ℕ → ℕ → ℕ → ℕ
+entry xs n k = get_or xs (n * 21 + k) 0
+
 -- document 01's recurrence at n and k, between entries of the table
 abbrev right : List ℕ → ℕ → ℕ → Bool
-right xs zero zero = eqb (entry_of xs 0 0) 1
-right xs zero (suc k) = eqb (entry_of xs 0 (suc k)) 0
-right xs (suc n) zero = eqb (entry_of xs (suc n) 0) 0
-right xs (suc n) (suc k) = eqb (entry_of xs (suc n) (suc k)) (n * entry_of xs n (suc k) + entry_of xs n k)
+right xs zero zero = eqb (entry xs 0 0) 1
+right xs zero (suc k) = eqb (entry xs 0 (suc k)) 0
+right xs (suc n) zero = eqb (entry xs (suc n) 0) 0
+right xs (suc n) (suc k) = eqb (entry xs (suc n) (suc k)) (n * entry xs n (suc k) + entry xs n k)
 
 -- a test passes at each number below a bound
 abbrev pub all : (ℕ → Bool) → ℕ → Bool
@@ -46,7 +50,7 @@ right_at : (xs : List ℕ) → T (every_right xs) → (n k : ℕ) → n ≤ 20 �
 right_at xs t n k hn hk = all_at (right xs n) 21 (all_at (λ n. all (right xs n) 21) 21 t n (omega arith)) k (omega arith)
 
 -- at n and k up to 20 it is the count
-counted : (xs : List ℕ) → T (every_right xs) → (n k : ℕ) → n ≤ 20 → k ≤ 20 → entry_of xs n k ≡ c n k
+counted : (xs : List ℕ) → T (every_right xs) → (n k : ℕ) → n ≤ 20 → k ≤ 20 → entry xs n k ≡ c n k
 unfolding c
 counted xs t zero zero hn hk = eqb→eq _ _ (right_at xs t 0 0 hn hk)
 counted xs t zero (suc k) hn hk = eqb→eq _ _ (right_at xs t 0 (suc k) hn hk)
@@ -56,15 +60,9 @@ counted xs t (suc n) (suc k) hn hk =
 
 -- and for a k above 20 there is none
 entry_counted : (xs : List ℕ) → T (every_right xs) → (n k : ℕ) → n ≤ 20 → (b : Bool) → leb k 20 ≡ b → entry_of xs n k ≡ c n k
-entry_counted xs t n k h true e = counted xs t n k h (leb-true k 20 e)
-entry_counted xs t n k h false e =
-    let above-n : n < k = omega (arith, leb-false k 20 e) in
-    rw (le-leb n 20 h, lt-leb k n above-n) (sym (above n k above-n))
+entry_counted xs t n k h true e = rw (le-leb n 20 h, e) (counted xs t n k h (leb-true k 20 e))
+entry_counted xs t n k h false e = let above-20 = leb-false k 20 e in rw (le-leb n 20 h, e) (sym (above n k (omega arith)))
 
 -- a table that passes the test holds the counts
 pub is_table : (xs : List ℕ) → T (every_right xs) → IsTable xs
 is_table xs t = record { holds = λ n k h. entry_counted xs t n k h (leb k 20) refl }
-
--- twice the number of entries before those of n, which rises with n
-pub twice-before : {n m : ℕ} → n ≤ m → n * (n + 1) ≤ m * (m + 1)
-twice-before {n} {m} h = let more : n + 1 ≤ m + 1 = omega arith in mul-le-mul h more

@@ -1,5 +1,5 @@
 -- Document 01's *count* c(n,k), and the checks 1, 2 and 3 on numbers, which rest on it. These are definitions; nothing is assumed.
-use Rattle.std.specs.Prelude.{◌≡◌, ℕ, zero, suc, ◌+◌, ◌*◌, ◌/◌, ◌≤◌, Bool, not, cond, ◌&&◌, List, eqb, leb, ltb, get_or}
+use Rattle.std.specs.Prelude.{◌≡◌, ℕ, zero, suc, ◌+◌, ◌*◌, ◌≤◌, Bool, not, cond, ◌&&◌, List, eqb, leb, ltb, get_or}
 use Rattle.stirling.specs.Refusal.{refuse, ◌then◌, unless, within}
 use Rattle.stirling.specs.declared.Counted.{Counted}
 
@@ -26,13 +26,9 @@ check_cycles n k = check_size n then refuse (not (cycles_taken n k)) 2
 abbrev pub check_place : ℕ → ℕ → ℕ → ℕ
 check_place n k place = check_cycles n k then refuse (leb (c n k) place) 3
 
--- where the entry for n and k stands in a flat table with k up to n, row by row: n(n+1)/2 entries stand before those of n
-abbrev pub packed : ℕ → ℕ → ℕ
-packed n k = n * (n + 1) / 2 + k
-
--- the entry for n and k of such a table with n up to 20, and 0 outside it
+-- the entry for n and k of a flat table of 21 × 21 numbers, and 0 outside it
 abbrev pub entry_of : List ℕ → ℕ → ℕ → ℕ
-entry_of counts n k = cond (leb n 20 && leb k n) (get_or counts (packed n k) 0) 0
+entry_of counts n k = cond (leb n 20 && leb k 20) (get_or counts (n * 21 + k) 0) 0
 
 -- such a table holds the counts for n up to 20
 pub record IsTable (counts : List ℕ) : Type 0 where
