@@ -1,6 +1,5 @@
--- How many rows a subtree has, and the constant tables of these sizes. These are definitions; nothing is assumed.
-use Rattle.std.specs.Prelude.{◌≡◌, ℕ, zero, suc, ◌+◌, ◌-◌, ◌*◌, ◌≤◌, List, get_or}
-use Rattle.stirling.specs.Count.{packed}
+-- How many rows a subtree has, and the constant table of these sizes. These are definitions; nothing is assumed.
+use Rattle.std.specs.Prelude.{◌≡◌, ℕ, zero, suc, ◌+◌, ◌-◌, ◌*◌, ◌/◌, ◌^◌, ◌≤◌, ◌<◌, List, length, get_or}
 use Rattle.tree.specs.declared.Kind.{Kind}
 use Rattle.tree.specs.declared.Kind.TheVariants.{Involution, Bell}
 
@@ -14,14 +13,12 @@ unfoldable pub size : Kind → ℕ → ℕ → ℕ
 size kind f zero = 1
 size kind f (suc m) = size kind (suc f) m + f * size kind (usable_below kind f) m
 
--- where T(f,m) stands in a flat table for f + m up to 19: the sums rise, and with each sum f
+-- where T(f,m) stands in a flat table for f + m up to 20: the sums rise, and with each sum f
 abbrev pub index : ℕ → ℕ → ℕ
-index f m = packed (f + m) f
+index f m = (f + m) * (f + m + 1) / 2 + f
 
--- such a table holds the sizes, as a search for n up to 20 asks for them: a child's f + m is less than n
+-- such a table holds the sizes, and they fit 64 bits
 pub record IsTable (kind : Kind) (sizes : List ℕ) : Type 0 where
-  pub holds : (f m : ℕ) → f + m ≤ 19 → get_or sizes (index f m) 0 ≡ size kind f m
-
--- a table holds the sizes of the whole lists, T(0,n), for n up to 20
-pub record AreCounts (kind : Kind) (counts : List ℕ) : Type 0 where
-  pub holds : (n : ℕ) → n ≤ 20 → get_or counts n 0 ≡ size kind 0 n
+  pub long : length sizes ≡ 231
+  pub holds : (f m : ℕ) → f + m ≤ 20 → get_or sizes (index f m) 0 ≡ size kind f m
+  pub fits : (f m : ℕ) → f + m ≤ 20 → size kind f m < 2 ^ 64

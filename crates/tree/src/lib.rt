@@ -9,7 +9,7 @@ ghost use Rattle.tree.specs.Bell.{rises};
 ghost use Rattle.tree.specs.Kind.{rule_of, listed, breaks, refusal_of, IsOf};
 ghost use Rattle.tree.specs.Listing.{row_at, place_in};
 ghost use Rattle.tree.specs.Calls.{count_of, check_unrank, written_by, check_kind, check_rank, rank_of};
-ghost use Rattle.tree.specs.Sizes.{usable_below, size, index, IsTable, AreCounts};
+ghost use Rattle.tree.specs.Sizes.{usable_below, size, index, IsTable};
 ghost use Rattle.tree.specs.Search.{rows, count_usable, place_from, Stands, Falls, Leads, Down, Along};
 
 use perm::REFUSED_LENT;
@@ -33,28 +33,243 @@ const IDENTITY: [u8; 20] = [
     1, 2, 3, 4, 5, 6, 7, 8, 9, 10, 11, 12, 13, 14, 15, 16, 17, 18, 19, 20,
 ];
 
-// The rows of a subtree with f positions that may be used and m that remain, at (f + m)(f + m + 1)/2 + f, in the lists of involutions. A child has f + m up to 19.
-const INVOLUTION_SIZES: [u64; 210] = [
-    1, 1, 1, 2, 2, 1, 4, 4, 3, 1, 10, 10, 8, 4, 1, 26, 26, 22, 14, 5, 1, 76, 76, 66, 46, 22, 6, 1,
-    232, 232, 206, 154, 88, 32, 7, 1, 764, 764, 688, 536, 338, 154, 44, 8, 1, 2620, 2620, 2388,
-    1924, 1306, 690, 250, 58, 9, 1, 9496, 9496, 8732, 7204, 5140, 2996, 1306, 382, 74, 10, 1,
-    35696, 35696, 33076, 27836, 20672, 12976, 6446, 2306, 556, 92, 11, 1, 140152, 140152, 130656,
-    111664, 85468, 56652, 30952, 12976, 3834, 778, 112, 12, 1, 568504, 568504, 532808, 461416,
-    362188, 250844, 147484, 69628, 24506, 6058, 1054, 134, 13, 1, 2390480, 2390480, 2250328,
-    1970024, 1578056, 1131400, 704060, 364148, 147484, 43676, 9170, 1390, 158, 14, 1, 10349536,
-    10349536, 9781032, 8644024, 7045600, 5199936, 3388996, 1883932, 851544, 294520, 73966, 13386,
-    1792, 184, 15, 1, 46206736, 46206736, 43816256, 39035296, 32284312, 24404216, 16513936,
-    9725536, 4797116, 1883932, 556576, 119816, 18946, 2266, 212, 16, 1, 211799312, 211799312,
-    201449776, 180750704, 151407608, 116831512, 81603512, 50403896, 26680924, 11609468, 3945572,
-    1000372, 186746, 26114, 2818, 242, 17, 1, 997313824, 997313824, 951107088, 858693616,
-    727244848, 571103664, 409682104, 263256808, 147659256, 69854968, 26680924, 7841604, 1719268,
-    281476, 35178, 3454, 274, 18, 1, 4809701440, 4809701440, 4597902128, 4174303504, 3569954176,
-    2846951360, 2089913320, 1388924248, 817699664, 414468496, 174340180, 58245500, 14844208,
-    2839744, 412046, 46450, 4180, 308, 19, 1,
+// The rows of a subtree with f positions that may be used and m that remain, at (f + m)(f + m + 1)/2 + f, in the list of involutions.
+const INVOLUTION_SIZES: [u64; 231] = [
+    1,
+    1,
+    1,
+    2,
+    2,
+    1,
+    4,
+    4,
+    3,
+    1,
+    10,
+    10,
+    8,
+    4,
+    1,
+    26,
+    26,
+    22,
+    14,
+    5,
+    1,
+    76,
+    76,
+    66,
+    46,
+    22,
+    6,
+    1,
+    232,
+    232,
+    206,
+    154,
+    88,
+    32,
+    7,
+    1,
+    764,
+    764,
+    688,
+    536,
+    338,
+    154,
+    44,
+    8,
+    1,
+    2620,
+    2620,
+    2388,
+    1924,
+    1306,
+    690,
+    250,
+    58,
+    9,
+    1,
+    9496,
+    9496,
+    8732,
+    7204,
+    5140,
+    2996,
+    1306,
+    382,
+    74,
+    10,
+    1,
+    35696,
+    35696,
+    33076,
+    27836,
+    20672,
+    12976,
+    6446,
+    2306,
+    556,
+    92,
+    11,
+    1,
+    140152,
+    140152,
+    130656,
+    111664,
+    85468,
+    56652,
+    30952,
+    12976,
+    3834,
+    778,
+    112,
+    12,
+    1,
+    568504,
+    568504,
+    532808,
+    461416,
+    362188,
+    250844,
+    147484,
+    69628,
+    24506,
+    6058,
+    1054,
+    134,
+    13,
+    1,
+    2390480,
+    2390480,
+    2250328,
+    1970024,
+    1578056,
+    1131400,
+    704060,
+    364148,
+    147484,
+    43676,
+    9170,
+    1390,
+    158,
+    14,
+    1,
+    10349536,
+    10349536,
+    9781032,
+    8644024,
+    7045600,
+    5199936,
+    3388996,
+    1883932,
+    851544,
+    294520,
+    73966,
+    13386,
+    1792,
+    184,
+    15,
+    1,
+    46206736,
+    46206736,
+    43816256,
+    39035296,
+    32284312,
+    24404216,
+    16513936,
+    9725536,
+    4797116,
+    1883932,
+    556576,
+    119816,
+    18946,
+    2266,
+    212,
+    16,
+    1,
+    211799312,
+    211799312,
+    201449776,
+    180750704,
+    151407608,
+    116831512,
+    81603512,
+    50403896,
+    26680924,
+    11609468,
+    3945572,
+    1000372,
+    186746,
+    26114,
+    2818,
+    242,
+    17,
+    1,
+    997313824,
+    997313824,
+    951107088,
+    858693616,
+    727244848,
+    571103664,
+    409682104,
+    263256808,
+    147659256,
+    69854968,
+    26680924,
+    7841604,
+    1719268,
+    281476,
+    35178,
+    3454,
+    274,
+    18,
+    1,
+    4809701440,
+    4809701440,
+    4597902128,
+    4174303504,
+    3569954176,
+    2846951360,
+    2089913320,
+    1388924248,
+    817699664,
+    414468496,
+    174340180,
+    58245500,
+    14844208,
+    2839744,
+    412046,
+    46450,
+    4180,
+    308,
+    19,
+    1,
+    23758664096,
+    23758664096,
+    22761350272,
+    20766722624,
+    17913401360,
+    14478626896,
+    10842402656,
+    7415780672,
+    4548005944,
+    2441951480,
+    1113018176,
+    414468496,
+    120978332,
+    26879084,
+    4528600,
+    587936,
+    60266,
+    5002,
+    344,
+    20,
+    1,
 ];
 
-// And in the lists of Bell permutations.
-const BELL_SIZES: [u64; 210] = [
+// And in the list of Bell permutations.
+const BELL_SIZES: [u64; 231] = [
     1,
     1,
     1,
@@ -265,56 +480,27 @@ const BELL_SIZES: [u64; 210] = [
     325,
     19,
     1,
-];
-
-// The rows of the whole list of n, for n up to 20, of involutions. A call that only counts makes no more than this table.
-const INVOLUTION_COUNTS: [u64; 21] = [
-    1,
-    1,
-    2,
-    4,
-    10,
-    26,
-    76,
-    232,
-    764,
-    2620,
-    9496,
-    35696,
-    140152,
-    568504,
-    2390480,
-    10349536,
-    46206736,
-    211799312,
-    997313824,
-    4809701440,
-    23758664096,
-];
-
-// And of Bell permutations.
-const BELL_COUNTS: [u64; 21] = [
-    1,
-    1,
-    2,
-    5,
-    15,
-    52,
-    203,
-    877,
-    4140,
-    21147,
-    115975,
-    678570,
-    4213597,
-    27644437,
-    190899322,
-    1382958545,
-    10480142147,
-    82864869804,
-    682076806159,
-    5832742205057,
     51724158235372,
+    51724158235372,
+    45891416030315,
+    35590085232519,
+    23733360653955,
+    13377704321695,
+    6270561900010,
+    2411993186248,
+    755378218653,
+    192349660173,
+    40012800675,
+    6861571205,
+    981235788,
+    118485984,
+    12232031,
+    1092427,
+    85327,
+    5887,
+    362,
+    20,
+    1,
 ];
 
 // The place of a permutation, or a refusal with 0.
@@ -347,23 +533,19 @@ struct Passed {
     child: bool,
 }
 
-// The table of the involutions' sizes, to be made once in a call and lent. One function for both kinds would choose entry by entry, and what it gives would be copied.
-fn involution_sizes() -> [u64; 210]
-    ensures { IsTable Kind.Involution result }
+// The table of a kind's sizes, to be made once in a call and lent.
+fn table(kind: Kind) -> [u64; 231]
+    ensures { IsTable kind result }
 {
-    INVOLUTION_SIZES
-}
-
-// And that of the Bell permutations' sizes.
-fn bell_sizes() -> [u64; 210]
-    ensures { IsTable Kind.Bell result }
-{
-    BELL_SIZES
+    match kind {
+        Kind::Involution => INVOLUTION_SIZES,
+        Kind::Bell => BELL_SIZES,
+    }
 }
 
 // What a table has for so many positions that may be used and so many that remain.
-fn size_of(sizes: &[u64; 210], usable: u64, remaining: u64) -> u64
-    requires { usable + remaining ≤ 19 }
+fn size_of(sizes: &[u64], usable: u64, remaining: u64) -> u64
+    requires { (length sizes.now ≡ 231) × (usable + remaining ≤ 20) }
     ensures { result ≡ get_or sizes.now (index usable remaining) 0 }
 {
     let sum = usable + remaining;
@@ -371,22 +553,12 @@ fn size_of(sizes: &[u64; 210], usable: u64, remaining: u64) -> u64
     sizes[at as usize]
 }
 
-// The table of how many rows the lists of a kind have.
-fn counts(kind: Kind) -> [u64; 21]
-    ensures { AreCounts kind result }
-{
-    match kind {
-        Kind::Involution => INVOLUTION_COUNTS,
-        Kind::Bell => BELL_COUNTS,
-    }
-}
-
 // How many rows the list of n has.
-fn count_of(kind: Kind, n: u64) -> u64
-    requires { n ≤ 20 }
+fn count_of(kind: Kind, sizes: &[u64], n: u64) -> u64
+    requires { IsTable kind sizes.now × (n ≤ 20) }
     ensures { result ≡ length (listed kind n) }
 {
-    counts(kind)[n as usize]
+    size_of(sizes, 0, n)
 }
 
 // One less, and 0 for 0.
@@ -448,7 +620,7 @@ fn swap(s: &mut [u8], a: usize, b: usize)
 }
 
 // How many rows a child's subtree has.
-fn child_size(kind: Kind, sizes: &[u64; 210], remaining: usize, usable: u64) -> u64
+fn child_size(kind: Kind, sizes: &[u64], remaining: usize, usable: u64) -> u64
     requires { IsTable kind sizes.now × (1 ≤ remaining) × (usable + remaining ≤ 20) }
     ensures { result ≡ size kind (usable_below kind usable) (remaining - 1) }
 {
@@ -519,7 +691,7 @@ fn child_at(kind: Kind, s: &[u8], h: usize, size: u64, place: u64) -> Step
 // A step to where a place lies, behind s itself: in the subtree of a child, or behind the children that exchange the next position.
 fn step_down(
     kind: Kind,
-    sizes: &[u64; 210],
+    sizes: &[u64],
     remaining: usize,
     usable: u64,
     place: u64,
@@ -545,14 +717,7 @@ fn step_down(
 }
 
 // The row at a place of s and what hangs below it, put in the place of s; place 0 is s itself.
-fn unrank_from(
-    kind: Kind,
-    sizes: &[u64; 210],
-    remaining: usize,
-    usable: u64,
-    place: u64,
-    s: &mut [u8],
-)
+fn unrank_from(kind: Kind, sizes: &[u64], remaining: usize, usable: u64, place: u64, s: &mut [u8])
     requires table { IsTable kind sizes.now }
     requires stands { Stands kind remaining usable s.old × (place < size kind usable remaining) }
     ensures { s.new ≡ row_at (rows (rule_of kind) (length s.old - remaining) remaining s.old) place }
@@ -567,7 +732,7 @@ fn unrank_from(
 // A step along a transposition array: its next exchange names the child, and the rows of the children before it are passed.
 fn step_along(
     kind: Kind,
-    sizes: &[u64; 210],
+    sizes: &[u64],
     a: &[u8],
     remaining: usize,
     usable: u64,
@@ -591,7 +756,7 @@ fn step_along(
 // The place of the permutation of a transposition array among s, to which its first exchanges lead, and what hangs below it.
 fn rank_from(
     kind: Kind,
-    sizes: &[u64; 210],
+    sizes: &[u64],
     a: &[u8],
     remaining: usize,
     usable: u64,
@@ -617,21 +782,23 @@ pub fn count(kind: Kind, n: u64) -> Counted
     if refusal != 0 {
         return Counted { refusal, count: 0 };
     }
+    let sizes = table(kind);
     Counted {
         refusal: 0,
-        count: count_of(kind, n),
+        count: count_of(kind, &sizes, n),
     }
 }
 
 // Check 1, then check 3 by this list's count, then check 5 for a slice of so many bytes.
-fn check_unrank(kind: Kind, n: u64, place: u64, lent: usize) -> u8
+fn check_unrank(kind: Kind, sizes: &[u64], n: u64, place: u64, lent: usize) -> u8
+    requires { IsTable kind sizes.now }
     ensures { result ≡ check_unrank kind n place lent }
 {
     let refusal = stirling::check_size(n);
     if refusal != 0 {
         return refusal;
     }
-    if place >= count_of(kind, n) {
+    if place >= count_of(kind, sizes, n) {
         return REFUSED_PLACE;
     }
     if lent as u64 != n {
@@ -641,17 +808,14 @@ fn check_unrank(kind: Kind, n: u64, place: u64, lent: usize) -> u8
 }
 
 // The row at a place of the list, for as many values as the slice has bytes.
-fn write_row(kind: Kind, place: u64, out: &mut [u8])
-    requires { (length out.old ≤ 20) × (place < size kind 0 (length out.old)) }
+fn write_row(kind: Kind, sizes: &[u64], place: u64, out: &mut [u8])
+    requires { IsTable kind sizes.now × (length out.old ≤ 20) × (place < size kind 0 (length out.old)) }
     ensures { out.new ≡ row_at (listed kind (length out.old)) place }
 {
     let n = out.len();
     // the search begins with the identity, which is its own transposition array
     perm::from_array(&IDENTITY[..n], out);
-    match kind {
-        Kind::Involution => unrank_from(kind, &involution_sizes(), n, 0, place, out),
-        Kind::Bell => unrank_from(kind, &bell_sizes(), n, 0, place, out),
-    }
+    unrank_from(kind, sizes, n, 0, place, out)
 }
 
 // The permutation at a place of the list of n, written to `out`. Refusals 1, 3, 5; a refused call writes nothing.
@@ -659,11 +823,12 @@ pub fn unrank(kind: Kind, n: u64, place: u64, out: &mut [u8]) -> u8
     ensures refusal { result ≡ check_unrank kind n place (length out.old) }
     ensures row { out.new ≡ written_by kind n place result out.old }
 {
-    let refusal = check_unrank(kind, n, place, out.len());
+    let sizes = table(kind);
+    let refusal = check_unrank(kind, &sizes, n, place, out.len());
     if refusal != 0 {
         return refusal;
     }
-    write_row(kind, place, out);
+    write_row(kind, &sizes, place, out);
     0
 }
 
@@ -759,13 +924,9 @@ fn place_of(kind: Kind, s: &[u8]) -> u64
     let n = s.len();
     let mut array = [0u8; 20];
     perm::to_array(s, &mut array[..n]);
-    let a = &array[..n];
-    let mut identity = IDENTITY;
-    let row = &mut identity[..n];
-    match kind {
-        Kind::Involution => rank_from(kind, &involution_sizes(), a, n, 0, row),
-        Kind::Bell => rank_from(kind, &bell_sizes(), a, n, 0, row),
-    }
+    let sizes = table(kind);
+    let mut row = IDENTITY;
+    rank_from(kind, &sizes, &array[..n], n, 0, &mut row[..n])
 }
 
 // The place of a permutation in the list of n, where n is the slice's length. Refusals 1, 6, 7, and 15 or 16.

@@ -6,7 +6,6 @@ use Prim.Native.Nat.{ℕ, ◌<◌}
 use borrow.Fn.Kinds.{In}
 use borrow.Fn.PlainCycle.{Measures, is, falls, and}
 use borrow.Author.Rules.{rules}
-use Rattle.tree.proofs.Sizes.{size_fits}
 use Rattle.tree.proofs.Descent.{few, size_some, leads-end}
 use Rattle.tree.proofs.rank_from.Reads as rank-from
 use Rattle.tree.proofs.rank_from.Kinds as rank-from-kinds
@@ -32,13 +31,13 @@ calls t = (step-along-reads.Asked, step-along-reads.Learnt, rank-from-below t, r
 module _ (t : ℕ) where
   rank-from-returns : rank-from-lts.Need-returns (calls t) (rank-from-at t) rank-from.Post
   rank-from-returns c =
-      let e = c.before.before.before in
+      let e = c.before.before.before.before in
       let (w, z, v) = e.requires.1.1 in
       (size_some e.args.kind e.args.usable e.args.remaining, leads-end e.args.kind (omega (arith, c.if1.true)) v)
 
   rank-from-step-along-requires : rank-from-lts.Need-step-along-requires (calls t) (rank-from-at t) rank-from.Post
   rank-from-step-along-requires c κs =
-      let e = c.before.before.before.before in
+      let e = c.before.before.before.before.before in
       let (w, z, v) = e.requires.1.1 in
       (e.requires.1.0, w, omega arith, z, v)
 
@@ -48,7 +47,7 @@ module _ (t : ℕ) where
   rank-from-rank-from-requires : rank-from-lts.Need-rank-from-requires (calls t) (rank-from-at t) rank-from.Post
   rank-from-rank-from-requires c κs =
       let stepped = c.before.before.before in
-      let e = stepped.before.before.before.before.before in
+      let e = stepped.before.before.before.before.before.before in
       let along = stepped.step-along.ensures in
       (omega (arith, e.requires.0, stepped.before.before.if1.false), (e.requires.1.0, (along.stands, e.requires.1.1.1 ∙ sym c.before.before.s.given, along.leads)))
 
@@ -56,9 +55,9 @@ module _ (t : ℕ) where
   rank-from-place-before-requires : rank-from-lts.Need-place-before-requires (calls t) (rank-from-at t) rank-from.Post
   rank-from-place-before-requires c κs =
       let stepped = c.before.before.before.before.before.before in
-      let e = stepped.before.before.before.before.before in
+      let e = stepped.before.before.before.before.before.before in
       let inside = stepped.step-along.ensures.inside c.before.before.rank-from.result c.before.before.rank-from.ensures.0 in
-      lt_trans inside (size_fits e.args.kind e.args.usable e.args.remaining (few e.args.kind e.requires.1.1.0))
+      lt_trans inside (e.requires.1.0.fits e.args.usable e.args.remaining (few e.args.kind e.requires.1.1.0))
 
   rank-from-same-length : rank-from-lts.Need-same-length (calls t) (rank-from-at t) rank-from.Post
   rank-from-same-length c = search rules

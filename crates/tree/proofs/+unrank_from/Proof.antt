@@ -31,15 +31,15 @@ module _ (t : ℕ) where
   unrank-from-returns c = rw c.if1.true
 
   -- a place other than 0, and so a position that remains
-  behind : (c : unrank-from-lts.Else1 (calls t) (unrank-from-at t) unrank-from.Post) → 1 ≤ c.before.before.args.place
+  behind : (c : unrank-from-lts.Else1 (calls t) (unrank-from-at t) unrank-from.Post) → 1 ≤ c.before.before.before.args.place
   behind c = omega arith
 
-  remains : (c : unrank-from-lts.Else1 (calls t) (unrank-from-at t) unrank-from.Post) → 1 ≤ c.before.before.args.remaining
-  remains c = let e = c.before.before in some_remain e.args.kind e.args.usable e.args.remaining e.args.place (behind c) e.requires.1.1.1
+  remains : (c : unrank-from-lts.Else1 (calls t) (unrank-from-at t) unrank-from.Post) → 1 ≤ c.before.before.before.args.remaining
+  remains c = let e = c.before.before.before in some_remain e.args.kind e.args.usable e.args.remaining e.args.place (behind c) e.requires.1.1.1
 
   unrank-from-step-down-requires : unrank-from-lts.Need-step-down-requires (calls t) (unrank-from-at t) unrank-from.Post
   unrank-from-step-down-requires c κs =
-      let e = c.before.before.before in
+      let e = c.before.before.before.before in
       let (w, u) = e.requires.1.1 in
       (e.requires.1.0, w, remains c.before, behind c.before, u)
 
@@ -49,7 +49,7 @@ module _ (t : ℕ) where
   unrank-from-unrank-from-requires : unrank-from-lts.Need-unrank-from-requires (calls t) (unrank-from-at t) unrank-from.Post
   unrank-from-unrank-from-requires c κs =
       let stepped = c.before.before.before in
-      let e = stepped.before.before.before.before in
+      let e = stepped.before.before.before.before.before in
       let down = stepped.step_down.ensures in
       (omega (arith, e.requires.0, remains stepped.before.before), (e.requires.1.0, (down.stands, down.inside)))
 

@@ -18,11 +18,11 @@ returns : tie.Need-returns
 returns c = let taken = c.if1.true in then_stops _ _ _ (then_stops _ _ _ c.before.check-size.ensures taken) taken
 
 -- check 1 passes
-size : (c : tie.Else1) → check_size c.before.before.args.n ≡ 0
+size : (c : tie.Else1) → check_size c.before.before.before.args.n ≡ 0
 size c = sym c.before.check-size.ensures ∙ c.if1.false
 
 count-of-requires : tie.Need-count-of-requires
-count-of-requires c κs = size-passed _ (size c)
+count-of-requires c κs = (c.before.before.before.requires, size-passed _ (size c))
 
 returns-2 : tie.Need-returns-2
 returns-2 c =
@@ -30,7 +30,7 @@ returns-2 c =
     then_stops _ _ _ (next _ _ (size c.before.before) (sym (refuse_applies _ 3 place))) (λ e. omega arith)
 
 -- and check 3
-place : (c : tie.Else2) → let a = c.before.before.before.before.args in check_place a.kind a.n a.place ≡ 0
+place : (c : tie.Else2) → let a = c.before.before.before.before.before.args in check_place a.kind a.n a.place ≡ 0
 place c = sym (next _ _ (size c.before.before) (sym (refuse_passes _ 3 (lt-leb _ _ (rw c.before.count_of.ensures at c.if2.false)))))
 
 returns-3 : tie.Need-returns-3

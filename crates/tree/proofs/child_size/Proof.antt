@@ -16,12 +16,12 @@ sub-size-of c = search rules
 
 size-of-requires : tie.Need-size-of-requires
 size-of-requires c κs =
-    let start = c.before in
-    rw c.usable-below.ensures (omega (arith, below_most start.args.kind start.args.usable))
+    let start = c.before.before in
+    (start.requires.0.long, rw c.usable-below.ensures (omega (arith, below_most start.args.kind start.args.usable)))
 
 returns : tie.Need-returns
 returns c =
-    let start = c.before.before in
+    let start = c.before.before.before in
     let most = below_most start.args.kind start.args.usable in
     c.size_of.ensures ∙ rw c.before.usable-below.ensures (start.requires.0.holds (usable_below start.args.kind start.args.usable) (start.args.remaining - 1) (omega arith))
 

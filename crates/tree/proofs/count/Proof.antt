@@ -18,15 +18,30 @@ returns c =
     let refused : r ≡ 0 → ⊥ = λ e. omega (arith, c.before.check-size.ensures) in
     rw (c.before.check-size.ensures, unless-refuses {A = ℕ} r _ 0 refused)
 
+table-requires : tie.Need-table-requires
+table-requires c κs = search rules
+
+slice-aggregate-count-of : tie.Need-slice-aggregate-count-of
+slice-aggregate-count-of c = search rules
+
 count-of-requires : tie.Need-count-of-requires
-count-of-requires c κs = size-passed _ (sym c.before.check-size.ensures ∙ c.if1.false)
+count-of-requires c κs =
+    let b = c.before.before in
+    (c.before.table.ensures, size-passed _ (sym b.before.check-size.ensures ∙ b.if1.false))
 
 returns-2 : tie.Need-returns-2
 returns-2 c =
-    let b = c.before in
+    let b = c.before.before.before in
     let passed : check_size b.before.before.args.n ≡ 0 = sym b.before.check-size.ensures ∙ b.if1.false in
     rw (passed, c.count_of.ensures)
 
 pub count_spec : {M : Type 1} → statement M
 count_spec =
-    tie.close (tie.spec check-size-requires returns count-of-requires returns-2)
+    tie.close
+    (tie.spec
+    check-size-requires
+    returns
+    table-requires
+    slice-aggregate-count-of
+    count-of-requires
+    returns-2)

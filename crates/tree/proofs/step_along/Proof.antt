@@ -4,7 +4,6 @@ use native.Mathlib.Omega.{arith}
 use native.Mathlib.Numerals.{add-one}
 use lib.ListN.{length, get_or}
 use borrow.Author.Rules.{rules}
-use Rattle.tree.proofs.Sizes.{size_fits}
 use Rattle.tree.proofs.Descent.{few, next-bound, passed-most, stepped-along}
 use Rattle.tree.proofs.step_along.Statement.{statement}
 use Rattle.tree.proofs.step_along.Tie as tie
@@ -20,33 +19,33 @@ entry : (c : tie.Start) → (1 ≤ get_or c.args.a.now (length c.args.s.now - c.
 entry c = let pre = c.requires in next-bound c.args.kind c.args.remaining pre.1 pre.2 pre.3 pre.4
 
 cast-position : tie.Need-overflow-cast-position
-cast-position c = let start = c.before.before.before in omega (arith, entry start, start.requires.1.small)
+cast-position c = let start = c.before.before.before.before in omega (arith, entry start, start.requires.1.small)
 
 sub-count-usable : tie.Need-overflow-sub-count-usable
-sub-count-usable c = (entry c.before.before.before.before).0
+sub-count-usable c = (entry c.before.before.before.before.before).0
 
 count-usable-requires : tie.Need-count-usable-requires
-count-usable-requires c κs = let start = c.before.before.before.before in (omega (arith, entry start), start.requires.1.small, start.requires.1.of_kind)
+count-usable-requires c κs = let start = c.before.before.before.before.before in (omega (arith, entry start), start.requires.1.small, start.requires.1.of_kind)
 
 child-size-requires : tie.Need-child-size-requires
-child-size-requires c κs = let pre = c.before.before.before.before.before.requires in (pre.0, pre.2, few _ pre.1)
+child-size-requires c κs = let pre = c.before.before.before.before.before.before.requires in (pre.0, pre.2, few _ pre.1)
 
 mul-before : tie.Need-overflow-mul-before
 mul-before c =
-    let start = c.before.before.before.before.before.before in
+    let start = c.before.before.before.before.before.before.before in
     let pre = start.requires in
     let most = passed-most start.args.kind start.args.remaining pre.1 pre.2 pre.3 pre.4 in
-    rw (c.before.count-usable.ensures, c.child-size.ensures) (omega (arith, most, size_fits start.args.kind start.args.usable start.args.remaining (few _ pre.1)))
+    rw (c.before.count-usable.ensures, c.child-size.ensures) (omega (arith, most, pre.0.fits start.args.usable start.args.remaining (few _ pre.1)))
 
 add-swap : tie.Need-overflow-add-swap
 add-swap c = search rules
 
 swap-requires : tie.Need-swap-requires
-swap-requires c κs = let start = c.before.before.before.before.before.before.before in omega (arith, entry start, start.requires.2)
+swap-requires c κs = let start = c.before.before.before.before.before.before.before.before in omega (arith, entry start, start.requires.2)
 
 usable-after-requires : tie.Need-usable-after-requires
 usable-after-requires c κs =
-    let start = c.before.before.before.before.before.before.before.before.before.before in
+    let start = c.before.before.before.before.before.before.before.before.before.before.before in
     omega (arith, few _ start.requires.1)
 
 same_length : tie.Need-same-length
@@ -56,7 +55,7 @@ returns : tie.Need-returns
 returns c =
     let swapped = c.before.before.before in
     let sized = swapped.before.before in
-    let start = sized.before.before.before.before.before.before in
+    let start = sized.before.before.before.before.before.before.before in
     let pre = start.requires in
     rw (c.usable_after.ensures, swapped.swap.ensures, add-one, sized.child-size.ensures, sized.before.count-usable.ensures)
     (stepped-along start.args.kind start.args.remaining pre.1 pre.2 pre.3 pre.4)

@@ -10,7 +10,7 @@ sub-h : tie.Need-overflow-sub-h
 sub-h c = search rules
 
 child-size-requires : tie.Need-child-size-requires
-child-size-requires c κs = let pre = c.before.before.requires in (pre.0, pre.2, few _ pre.1)
+child-size-requires c κs = let pre = c.before.before.before.requires in (pre.0, pre.2, few _ pre.1)
 
 sub-child-at : tie.Need-overflow-sub-child-at
 sub-child-at c = search rules
@@ -26,7 +26,7 @@ swap-requires c κs = search rules
 
 usable-after-requires : tie.Need-usable-after-requires
 usable-after-requires c κs =
-    let start = c.before.before.before.before.before.before.before.before.before in
+    let start = c.before.before.before.before.before.before.before.before.before.before in
     omega (arith, few _ start.requires.1)
 
 place-after-requires : tie.Need-place-after-requires
@@ -40,7 +40,7 @@ returns c =
     let usable = c.before in
     let swapped = usable.before.before.before in
     let child = swapped.before.before.before in
-    let start = child.before.before.before.before in
+    let start = child.before.before.before.before.before in
     let a = start.args in
     let falls = rw child.before.child-size.ensures at child.child-at.ensures in
     rw (c.place_after.ensures, usable.usable_after.ensures, swapped.swap.ensures, add-one)

@@ -14,60 +14,29 @@ array-share-prefix-from-array : tie.Need-array-share-prefix-from-array
 array-share-prefix-from-array c = search rules
 
 slice-aggregate-from-array : tie.Need-slice-aggregate-from-array
-slice-aggregate-from-array c = first-length _ c.before.before.requires.0
+slice-aggregate-from-array c = first-length _ c.before.before.before.requires.1
 
 from-array-requires : tie.Need-from-array-requires
 from-array-requires c κs = search rules
 
 -- the identity is written
-written : (c : tie.After-from-array) → c.from-array.new.1.0 ≡ positions (length c.before.before.before.before.args.out.now)
-written c = let s = c.before.before.before.before in identity_written (length s.args.out.now) s.requires.0 refl c.from-array.ensures
-
-enum_told : tie.Need-enum-told
-enum_told c = search rules
-
-involution-sizes-requires : tie.Need-involution-sizes-requires
-involution-sizes-requires c κs = search rules
+written : (c : tie.After-from-array) → c.from-array.new.1.0 ≡ positions (length c.before.before.before.before.before.args.out.now)
+written c = let s = c.before.before.before.before.before in identity_written (length s.args.out.now) s.requires.1 refl c.from-array.ensures
 
 unrank-from-requires : tie.Need-unrank-from-requires
 unrank-from-requires c κs =
-    let t = c.before.before in
-    let b = t.before.before.before.before.before in
-    let s = b.before.before.before.before in
-    (rw t.before.enum_told.given.1 t.involution-sizes.ensures, (identity-stands s.args.kind _ s.requires.0 (written b), s.requires.1))
-
-enum-told-2 : tie.Need-enum-told-2
-enum-told-2 c = search rules
-
-bell-sizes-requires : tie.Need-bell-sizes-requires
-bell-sizes-requires c κs = search rules
-
-unrank-from-requires-2 : tie.Need-unrank-from-requires-2
-unrank-from-requires-2 c κs =
-    let t = c.before.before in
-    let b = t.before.before.before.before.before in
-    let s = b.before.before.before.before in
-    (rw t.before.enum-told2.given.1 t.bell-sizes.ensures, (identity-stands s.args.kind _ s.requires.0 (written b), s.requires.1))
+    let b = c.before.before.before in
+    let s = b.before.before.before.before.before in
+    (s.requires.0, (identity-stands s.args.kind _ s.requires.1 (written b), s.requires.2))
 
 same_length : tie.Need-same-length
 same_length c = search rules
 
 returns : tie.Need-returns
 returns c =
-    let u = c.before.before in
-    let b = u.before.before.before.before.before.before.before.before in
-    let s = b.before.before.before.before in
-    subst (λ (l : List (List ℕ)). u.unrank-from.new.1.1.1.1.1.0 ≡ row_at l s.args.place) (identity-rows s.args.kind _ (written b)) u.unrank-from.ensures
-
-same-length-2 : tie.Need-same-length-2
-same-length-2 c = search rules
-
-returns-2 : tie.Need-returns-2
-returns-2 c =
-    let u = c.before.before in
-    let b = u.before.before.before.before.before.before.before.before in
-    let s = b.before.before.before.before in
-    subst (λ (l : List (List ℕ)). u.unrank-from2.new.1.1.1.1.1.0 ≡ row_at l s.args.place) (identity-rows s.args.kind _ (written b)) u.unrank-from2.ensures
+    let b = c.before.before.before.before.before.before in
+    let s = b.before.before.before.before.before in
+    subst (λ (l : List (List ℕ)). c.before.before.unrank-from.new.1.1.1.1.1.0 ≡ row_at l s.args.place) (identity-rows s.args.kind _ (written b)) c.before.before.unrank-from.ensures
 
 pub write-row-spec : {M : Type 1} → statement M
 write-row-spec =
@@ -76,13 +45,6 @@ write-row-spec =
     array-share-prefix-from-array
     slice-aggregate-from-array
     from-array-requires
-    enum_told
-    involution-sizes-requires
     unrank-from-requires
-    enum-told-2
-    bell-sizes-requires
-    unrank-from-requires-2
     same_length
-    returns
-    same-length-2
-    returns-2)
+    returns)
