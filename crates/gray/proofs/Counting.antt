@@ -66,7 +66,7 @@ module _ (f : ℕ → ℕ) (e : ℕ) where
   total_a (suc (suc (suc zero))) h = omega (arith, h (omega arith))
   total_a (suc (suc (suc (suc m)))) h =
       let q : 5 + m - 1 ≡ suc (suc (suc (suc m))) = omega arith in
-      rw (total-append, q)
+      rw (total-append f e, q)
       (omega (arith, h (omega arith), total-falling (λ i. i + 1) (suc (suc (suc (suc (suc m)))) - 4) (suc (suc (suc (suc m)))) 3 (omega arith)))
 
   total_c : (m : ℕ) → 2 ≤ m → total f e (cond (eqb (suc m) 3) blocks_c3 (blocks_c (suc m))) ≡ sum f m + e
@@ -79,19 +79,19 @@ module _ (f : ℕ → ℕ) (e : ℕ) where
       let q₁ : suc (suc (suc (suc m))) - 1 ≡ suc (suc (suc m)) = omega arith in
       let q₂ : suc (suc (suc (suc m))) - 2 ≡ suc (suc m) = omega arith in
       let q₃ : suc (suc (suc (suc m))) - 3 ≡ suc m = omega arith in
-      rw (t, total-append, q₁, q₂, q₃) (omega (arith, total-falling (λ i. 0) (suc (suc m) - 2) (suc m) 1 (omega arith)))
+      rw (t, total-append f e, q₁, q₂, q₃) (omega (arith, total-falling (λ i. 0) (suc (suc m) - 2) (suc m) 1 (omega arith)))
 
   total-d : (m : ℕ) → 3 ≤ m → total f e (blocks_d (suc m)) ≡ sum f m + e
   unfolding total weight sum
   total-d m h =
       let q : suc m - 1 ≡ m = omega arith in
-      rw (total-append, q) (omega (arith, total-rising (λ i. i) (suc m - 3) m 2 (omega arith)))
+      rw (total-append f e, q) (omega (arith, total-rising (λ i. i) (suc m - 3) m 2 (omega arith)))
 
   total-e : (m k : ℕ) → 2 ≤ k → k ≤ m → total f e (blocks_e (suc m) k) ≡ sum f m + e
   unfolding total weight sum
   total-e m k h l =
       let q : suc m - 1 ≡ m = omega arith in
-      rw (total-append, q)
+      rw (total-append f e, q)
       (omega
       (arith, total-falling (λ i. i) (suc m - (k + 1)) m k (omega arith), total-falling (λ i. i - 1) (suc k - 2) k 1 (omega arith)))
 

@@ -1,7 +1,7 @@
 -- S(n,k) is a run from its first row to its last, of every kind that has the steps between blocks, by induction on n: each relation, with the ends of its L and M.
 -- Its steps count t(n,k). Assumes nothing.
 use mathlib.Core.Path.{◌≡◌, refl, subst}
-use mathlib.Core.Logic.{◌⊎◌, ⊎_elim}
+use mathlib.Core.Logic.{⊎_elim}
 use Prim.Native.Nat.{ℕ, zero, suc, ◌+◌, ◌-◌, ◌≤◌}
 use native.Mathlib.Omega.{arith}
 use mathlib.Core.Bool.{cond}

@@ -1,5 +1,5 @@
 -- S(n,k) is its blocks, joined; after this law nothing unfolds S but at n = 0. Read backward it is the same blocks in reverse order, each turned. Assumes nothing.
-use mathlib.Core.Path.{◌≡◌, refl, ap}
+use mathlib.Core.Path.{◌≡◌, refl, ap, ◌∙◌}
 use mathlib.Core.Logic.{inl, inr}
 use Prim.Native.Nat.{ℕ, zero, suc, ◌+◌, ◌-◌, ◌≤◌, ◌<◌}
 use native.Mathlib.Omega.{arith}
@@ -89,7 +89,8 @@ written_a (suc (suc zero)) = refl
 written_a (suc (suc (suc zero))) = refl
 written_a (suc (suc (suc (suc n)))) =
     let five : 5 + n ≡ suc (suc (suc (suc (suc n)))) = omega arith in
-    rw five (longer-a (suc (suc (suc (suc (suc n))))) (S (suc (suc (suc (suc n)))) 1) (S (suc (suc (suc (suc n)))) 0))
+    longer-a (5 + n) (S (suc (suc (suc (suc n)))) 1) (S (suc (suc (suc (suc n)))) 0)
+    ∙ ap (λ m. joined m (S (suc (suc (suc (suc n)))) 1) (S (suc (suc (suc (suc n)))) 0) (blocks_a (5 + n))) five
 
 -- and so is the row that (b) writes out
 written_b : (n : ℕ) → relation_b (suc n) ≡ joined (suc n) (S n (suc n)) (S n n) (E 0 ∷ [])

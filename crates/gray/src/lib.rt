@@ -1,7 +1,9 @@
 // The list S(n,k) of all permutations of n with k cycles, as relations between blocks.
+#![tactic(auto)]
+
 ghost use Rattle.std.specs.Prelude.{◌≡◌, cond, ◌+◌, ◌≤◌, ◌<◌, eqb, length, get_or};
 ghost use Rattle.gray.specs.Order.{letter, blocks_c3, blocks_c, blocks_d, blocks_e};
-ghost use Rattle.gray.specs.Blocks.{blocks_of_a, blocks, number_in, numbered};
+ghost use Rattle.gray.specs.Blocks.{blocks_of_a, blocks, number_in, number_of, numbered};
 
 // A block of a relation. `Insert { position: i, reading: e }` is document 01's I(i,[L]e), and `Extend { reading: e }` its E([M]e):
 // L = S(n-1,k) and M = S(n-1,k-1), read forward for even e and backward for odd e.
@@ -374,4 +376,12 @@ pub fn block_with(n: u64, k: u64, i: u64) -> NumberedBlock
             }
         }
     }
+}
+
+// The number, from 0 in written order, of the block of S(n,k) that puts value n at position i; where none does, the number of blocks.
+pub fn block_number(n: u64, k: u64, i: u64) -> u64
+    ensures { result ≡ number_of n k i }
+{
+    let numbered = block_with(n, k, i);
+    numbered.number
 }

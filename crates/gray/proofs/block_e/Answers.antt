@@ -1,5 +1,4 @@
 -- `gray::block_e` meets its contract: the runs of (e) stand at the indices 1 to n−k−1 and n−k+1 to n−1, and E between them. Assumes nothing.
-use borrow.Author.Rules.{rules}
 use mathlib.Core.Path.{◌≡◌, sym, ◌∙◌}
 use Prim.Native.Nat.{ℕ, suc, ◌+◌, ◌-◌, ◌≤◌, ◌<◌}
 use native.Mathlib.Omega.{arith}
@@ -9,8 +8,7 @@ use Rattle.gray.specs.declared.Block.{Block}
 use Rattle.gray.specs.declared.Block.TheVariants.{Insert as I, Extend as E}
 use Rattle.gray.specs.Order.{falling, blocks_e}
 use Rattle.gray.proofs.Indexed.{block, length-falling, block-falling, falling-at, falling-past}
-use Rattle.gray.proofs.block_e.Statement.{statement}
-use Rattle.gray.proofs.block_e.Tie as tie
+use Rattle.gray.proofs.block_e.Goals as goal
 
 -- the second run
 abbrev lower : ℕ → List Block
@@ -34,42 +32,14 @@ module _ (n k j : ℕ) (h : (2 ≤ k) × (k + 3 ≤ n)) where
       let i = j - (n - k + 1) in
       past-run (suc i) (omega arith) ∙ get_or-eq_default (lower k) (E 0) {n = i} (rw length-falling (omega arith))
 
-returns : tie.Need-returns
-returns c = search rules
+pub returns-then-j-n : goal.returns-then-j-n
+returns-then-j-n c = sym (in-run _ c.args.k _ c.requires (omega arith) c.if-j-n.true)
 
-sub-if2 : tie.Need-overflow-sub-if2
-sub-if2 c = search rules
+pub returns-then-j-n-2 : goal.returns-then-j-n-2
+returns-then-j-n-2 c = sym (past-run c.args.n _ c.args.j c.requires 0 (omega arith))
 
-sub-t6 : tie.Need-overflow-sub-t6
-sub-t6 c = search rules
+pub returns-then-j-n-3 : goal.returns-then-j-n-3
+returns-then-j-n-3 c = sym (in-lower c.args.n c.args.k c.args.j c.requires (omega arith) c.if-j-n-3.true)
 
-sub-t7 : tie.Need-overflow-sub-t7
-sub-t7 c = search rules
-
-returns-2 : tie.Need-returns-2
-returns-2 c = let s = c.before.before in sym (in-run _ s.args.k _ s.requires (omega arith) c.if2.true)
-
-sub-if3 : tie.Need-overflow-sub-if3
-sub-if3 c = search rules
-
-returns-3 : tie.Need-returns-3
-returns-3 c = let s = c.before.before.before in sym (past-run s.args.n _ s.args.j s.requires 0 (omega arith))
-
-sub-t8 : tie.Need-overflow-sub-t8
-sub-t8 c = search rules
-
-add-t9 : tie.Need-overflow-add-t9
-add-t9 c = search rules
-
-sub-t10 : tie.Need-overflow-sub-t10
-sub-t10 c = search rules
-
-returns-4 : tie.Need-returns-4
-returns-4 c = let s = c.before.before.before.before in sym (in-lower s.args.n s.args.k s.args.j s.requires (omega arith) c.if4.true)
-
-returns-5 : tie.Need-returns-5
-returns-5 c = let s = c.before.before.before.before in sym (past-lower _ s.args.k s.args.j s.requires c.if4.false)
-
-pub block-e-spec : {M : Type 1} → statement M
-block-e-spec =
-    tie.close (tie.spec returns sub-if2 sub-t6 sub-t7 returns-2 sub-if3 returns-3 sub-t8 add-t9 sub-t10 returns-4 returns-5)
+pub returns : goal.returns
+returns c = sym (past-lower _ c.args.k c.args.j c.requires c.if-j-n-3.false)

@@ -1,5 +1,4 @@
 -- `gray::block_a4` meets its contract: the blocks of (a) for n up to 4 are written out. Assumes nothing.
-use borrow.Author.Rules.{rules}
 use mathlib.Core.Path.{◌≡◌, refl, sym}
 use Prim.Native.Nat.{ℕ, zero, suc, ◌+◌, ◌-◌, ◌≤◌, ◌<◌}
 use native.Mathlib.Omega.{arith}
@@ -7,8 +6,7 @@ use lib.ListN.{length, get_or-eq_default}
 use Rattle.gray.specs.declared.Block.TheVariants.{Insert as I, Extend as E}
 use Rattle.gray.specs.Blocks.{blocks_of_a}
 use Rattle.gray.proofs.Indexed.{block, first-a}
-use Rattle.gray.proofs.block_a4.Statement.{statement}
-use Rattle.gray.proofs.block_a4.Tie as tie
+use Rattle.gray.proofs.block_a4.Goals as goal
 
 none : (n j : ℕ) → n < 2 → block (blocks_of_a n) j ≡ E 0
 unfolding blocks_of_a
@@ -37,28 +35,18 @@ later n (suc zero) h l g = rw h
 later n (suc (suc zero)) h l g = rw h
 later n (suc (suc (suc j))) h l g = absurd (omega arith)
 
-returns : tie.Need-returns
-returns c = sym (none _ _ c.if1.true)
+pub returns-then-n-lt2 : goal.returns-then-n-lt2
+returns-then-n-lt2 c = sym (none _ _ c.if-n-lt2.true)
 
-sub-if2 : tie.Need-overflow-sub-if2
-sub-if2 c = search rules
+pub returns-then-n-j : goal.returns-then-n-j
+returns-then-n-j c =
+    sym (get_or-eq_default (blocks_of_a c.args.n) (E 0) (rw (count c.args.n (omega arith) (omega arith)) c.if-n-j.true))
 
-returns-2 : tie.Need-returns-2
-returns-2 c =
-    let s = c.before.before in
-    sym (get_or-eq_default (blocks_of_a s.args.n) (E 0) (rw (count s.args.n (omega arith) (omega arith)) c.if2.true))
+pub returns-then-j-eq0 : goal.returns-then-j-eq0
+returns-then-j-eq0 c = sym (first-a c.args.n c.args.j (omega arith) c.if-j-eq0.true)
 
-returns-3 : tie.Need-returns-3
-returns-3 c = let s = c.before.before.before in sym (first-a s.args.n s.args.j (omega arith) c.if3.true)
+pub returns-then-n-eq3 : goal.returns-then-n-eq3
+returns-then-n-eq3 c = sym (second _ _ c.if-n-eq3.true (omega arith))
 
-returns-4 : tie.Need-returns-4
-returns-4 c = sym (second _ _ c.if4.true (omega arith))
-
-add-t4 : tie.Need-overflow-add-t4
-add-t4 c = search rules
-
-returns-5 : tie.Need-returns-5
-returns-5 c = let s = c.before.before.before.before in sym (later s.args.n s.args.j (omega arith) c.before.if3.false (omega arith))
-
-pub block-a4-spec : {M : Type 1} → statement M
-block-a4-spec = tie.close (tie.spec returns sub-if2 returns-2 returns-3 returns-4 add-t4 returns-5)
+pub returns : goal.returns
+returns c = sym (later c.args.n c.args.j (omega arith) c.if-j-eq0.false (omega arith))
