@@ -1,4 +1,6 @@
 // From a place of S(n,k) to its permutation and back, and rows into a lent buffer.
+#![tactic(auto)]
+
 ghost use Rattle.std.specs.Prelude.{◌≡◌, suc, min, ◌+◌, ◌-◌, ◌*◌, ◌^◌, ◌≤◌, ◌<◌, true, false, cond, ◌++◌, reverse, eqb, length, replicate, take, drop};
 ghost use Rattle.stirling.specs.Count.{c, IsTable};
 ghost use Rattle.perm.specs.Lists.{positions};
@@ -34,7 +36,7 @@ pub struct Standing {
 
 // The block of S(n,k) at which a search through a reading of the list stops: its number from 0 in that reading, and how many rows of the reading stand before it. The
 // start is a running sum: going on to the next block adds one count to it, and `additions` says how often that was done.
-#[derive(Drop)]
+#[derive(Clone, Copy)]
 struct Stop {
     number: u64,
     start: u64,
@@ -49,7 +51,7 @@ const FIRST: Stop = Stop {
 };
 
 // The sizes of the blocks of S(n,k), counted as a reading meets them: the block at index `extension` has `extended` rows, and each other `inserted`.
-#[derive(Drop)]
+#[derive(Clone, Copy)]
 struct Sizes {
     inserted: u64,
     extended: u64,
@@ -168,7 +170,7 @@ fn sizes_of(counts: &[u64], n: u64, k: u64, backward: bool) -> Sizes
     requires listed { Listed n k }
     ensures { AreSizes n k backward result }
 {
-    let at = ((n - 1) * n / 2 + k) as usize;
+    let at = ((n - 1) * 21 + k) as usize;
     Sizes {
         inserted: counts[at],
         extended: counts[at - 1],
