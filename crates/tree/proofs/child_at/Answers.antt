@@ -1,4 +1,3 @@
-use Prim.Native.Nat.{◌-◌}
 use native.Mathlib.Omega.{arith}
 use Rattle.tree.proofs.Steps.{passed_none, passed_child, passed_other}
 use Rattle.tree.proofs.child_at.Goals.{else-is_usable, then-is_usable+else-rest-size}

@@ -1,5 +1,4 @@
 -- `tree::is_usable` meets its contract: the value is a byte, and in a Bell permutation it tells the least of a cycle. Assumes nothing.
-use Prim.Native.Nat.{◌-◌}
 use mathlib.Core.Path.{sym}
 use Rattle.tree.proofs.Falling.{least-value}
 use Rattle.tree.proofs.is_usable.Goals as goal

@@ -1,5 +1,4 @@
 -- `tree::step_along` meets its contract: the array's next entry is a position that may be used, or the next one. Assumes nothing.
-use Prim.Native.Nat.{◌-◌}
 use native.Mathlib.Omega.{arith}
 use native.Mathlib.Numerals.{add-one}
 use Rattle.tree.proofs.Descent.{few, passed-most, stepped-along}
