@@ -1,6 +1,6 @@
 -- The law for any rule: no permutation occurs twice in its tree; exchanging the highest position whose value is away with the position where that value stands leads from a child to its parent; and each row of the tree but
 -- the first is a child of its parent, which is a row too. Assumes nothing.
-use mathlib.Core.Path.{◌≡◌, sym, ap, ◌∙◌}
+use mathlib.Core.Path.{◌≡◌, sym, ap, subst, ◌∙◌}
 use Prim.Native.Nat.{ℕ, zero, suc, ◌+◌, ◌-◌, ◌≤◌, ◌<◌}
 use native.Mathlib.Omega.{arith}
 use native.Mathlib.Decide.{ℕ_discrete}
@@ -79,7 +79,7 @@ module _ (rule : Rule) (t : List ℕ) where
             exchanged = f;
           } in
           let up : parent t ≡ s = parent_of rule p c in
-          inr (rw up c, rw up here)
+          inr (rw up c, subst (λ (q : List ℕ). 1 ≤ tally (same q) (rows rule h (suc m) s)) (sym up) here)
 
       by_part : (l : ℕ) → 1 ≤ l → l ≤ suc h → takes rule h m s l ≡ true → Child (suc h) m (exchange l (suc h) s) → Child h (suc m) s
       by_part l a b u (inl f) = by-exchange l a b u f (ℕ_discrete l (suc h))

@@ -1,5 +1,7 @@
 // Permutations of n of a kind, listed as a tree, where the kind's rule says which positions may be used: the count, the permutation at a place and the place of a permutation.
 // A subtree's size is looked up, so that no call goes through the list: at most n steps down, each past at most n positions.
+#![tactic(auto)]
+
 ghost use Rattle.std.specs.Prelude.{◌≡◌, suc, ◌+◌, ◌-◌, ◌^◌, ◌≤◌, ◌<◌, cond, length, get_or};
 ghost use Rattle.perm.specs.Permutation.{IsPermutation, exchange};
 ghost use Rattle.perm.specs.Cycle.{least};
@@ -22,7 +24,7 @@ pub const REFUSED_LONG: u8 = 15;
 pub const REFUSED_RISING: u8 = 16;
 
 // The kinds: involutions, which have no cycle longer than two, and Bell permutations, whose cycles fall from their highest number to their lowest.
-#[derive(Drop)]
+#[derive(Clone, Copy)]
 pub enum Kind {
     Involution,
     Bell,

@@ -1,0 +1,25 @@
+-- `tree::place_of` meets its contract: the permutation's array is made, and the search along it, which begins with the identity, ends with its place. Assumes nothing.
+use mathlib.Core.Path.{refl}
+use Prim.Native.Nat.{ℕ}
+use mathlib.Core.List.{List, ◌++◌}
+use lib.ListN.{length, take, drop, replicate}
+use Rattle.perm.specs.Array.{IsArrayOf}
+use Rattle.tree.proofs.Checked.{array_made, search-begins, search-ends}
+use Rattle.tree.proofs.place_of.Goals.{After-to_array}
+use Rattle.tree.proofs.place_of.Goals as goal
+
+-- what the local array holds before its front is lent
+abbrev blank : List ℕ
+blank = replicate 20 0
+
+made : (c : After-to_array) → let s = c.args.s.now in IsArrayOf s (take (length s) (c.to_array.new.out ++ drop (length s) blank))
+made c = array_made c.args.s.now blank refl c.requires.0 c.requires.1.permutation c.to_array.ensures
+
+pub rank_from-requires-clause-stands : goal.rank_from-requires-clause-stands
+rank_from-requires-clause-stands c =
+    search-begins _ c.args.s.now _ c.requires.0 c.requires.1 (made (goal.at.rank_from-requires-clause-stands c).After-to_array)
+
+pub returns : goal.returns
+returns c =
+    let (inside, row) = c.rank_from.ensures in
+    search-ends _ c.args.s.now _ c.requires.0 c.requires.1 (made (goal.at.returns c).After-to_array) c.rank_from.result inside row
