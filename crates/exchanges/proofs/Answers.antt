@@ -6,7 +6,6 @@ use mathlib.Core.List.{List}
 use lib.ListN.{length, take}
 use lib.Seq.{get_or-take}
 use borrow.Author.Tests.{lt-ltb, le-ltb}
-use Rattle.stirling.specs.Refusal.{◌then◌}
 use Rattle.stirling.proofs.Refusals.{then_stops, then_passes, refuse_applies, refuse_passes}
 use Rattle.perm.specs.Permutation.{IsPermutation, at}
 use Rattle.perm.specs.Array.{IsArrayOf, array_of}

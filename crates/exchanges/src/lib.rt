@@ -1,5 +1,7 @@
 // The exchanges that turn one permutation into another, as few as can be: the permutation that carries one to the other, its transposition array, and of that
 // the entries that are not fixed.
+#![tactic(auto)]
+
 ghost use Rattle.std.specs.Prelude.{◌≡◌, ℕ, ◌*◌, ◌≤◌, ◌<◌, cond, eqb, length, get_or, take};
 ghost use Rattle.stirling.specs.Refusal.{◌then◌};
 ghost use Rattle.perm.specs.Permutation.{IsPermutation};

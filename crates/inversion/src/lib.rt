@@ -1,5 +1,7 @@
 // An array read as the inversion table of a sequence: entry i is one more than the number of earlier elements that are higher than the i-th. The call from table to
 // sequence and the call back.
+#![tactic(auto)]
+
 ghost use Rattle.std.specs.Prelude.{◌≡◌, suc, ◌+◌, ◌≤◌, ◌<◌, cond, ltb, length, take};
 ghost use Rattle.perm.specs.Array.{IsArray};
 ghost use Rattle.inversion.specs.Table.{higher, IsTable, IsSequence};

@@ -1,5 +1,7 @@
 // Moves by a spare position: values stand at the positions 1 to n, position 0 is empty before and after, and a move takes a value from an occupied position to an empty
 // one. The moves from the identity to a permutation, and the check of a list of moves, whoever drew it up.
+#![tactic(auto)]
+
 ghost use Rattle.std.specs.Prelude.{◌≡◌, ℕ, ◌+◌, ◌*◌, ◌≤◌, ◌<◌, true, not, ◌++◌, ltb, length, get_or, drop};
 ghost use Rattle.perm.specs.Lists.{some, range, same};
 ghost use Rattle.perm.specs.Permutation.{IsPermutation};
