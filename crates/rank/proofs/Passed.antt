@@ -6,7 +6,7 @@ use native.Mathlib.Omega.{arith}
 use mathlib.Core.Bool.{Bool}
 use Rattle.perm.specs.Array.{position}
 use Rattle.gray.specs.Order.{Row}
-use Rattle.gray.specs.Blocks.{blocks, number_of}
+use Rattle.gray.specs.Blocks.{number_of}
 use Rattle.gray.specs.Listing.{HasCycles}
 use Rattle.gray.proofs.InPlace.{few_blocks}
 use Rattle.rank.specs.Search.{cycles_of, backward_of, turned}

@@ -13,7 +13,7 @@ use Rattle.perm.specs.Permutation.{IsPermutation}
 use Rattle.perm.specs.Array.{position}
 use Rattle.gray.specs.declared.Block.{Block}
 use Rattle.gray.specs.declared.Block.TheVariants.{Insert as I, Extend as E}
-use Rattle.gray.specs.Order.{Row, S}
+use Rattle.gray.specs.Order.{Row}
 use Rattle.gray.specs.Blocks.{blocks, position_of, number_of}
 use Rattle.gray.specs.Listing.{row_at, HasCycles}
 use Rattle.gray.proofs.Indexed.{block}

@@ -1,15 +1,14 @@
 -- Changes at a distance, each of bytes of its own, and rows among them: one law for what is lent down and comes back, over any changes and any distance. Assumes nothing.
 use Prim.Native.Nat.{ℕ, zero, suc, ◌+◌, ◌-◌, ◌*◌, ◌≤◌, ◌<◌}
 use native.Mathlib.Omega.{arith}
-use native.Mathlib.Nat.{suc-mul, add-mul}
+use native.Mathlib.Nat.{suc-mul}
 use mathlib.Core.Path.{◌≡◌, refl, sym, ap, ◌∙◌}
 use mathlib.Core.List.{List, [], ◌∷◌, ◌++◌, map, flatten, append_assoc, append-nil}
-use lib.ListN.{length, get_or, set, take, drop, replicate, length-append, length-replicate, length-set, get_or-replicate, replicate-append-replicate, length-drop, length-map, take-append-drop, drop_of_length-le}
+use lib.ListN.{length, get_or, set, take, drop, replicate, length-append, length-replicate, length-set, get_or-replicate, replicate-append-replicate, length-drop, take-append-drop, drop_of_length-le}
 use lib.Seq.{length-take-le, take_at, drop_at, take-take, take-add, drop-drop, take-append-add, drop-append-le, drop-append-add}
 use Rattle.perm.specs.Permutation.{extend}
 use Rattle.perm.proofs.Exchange.{length-exchange}
 use Rattle.gray.specs.Order.{Row}
-use Rattle.gray.specs.Listing.{row_at}
 use Rattle.rank.specs.Search.{grown, InFront}
 use Rattle.rank.specs.Spacing.{overwritten, put_in, spaced, rows_apart, put_apart}
 use Rattle.rank.proofs.RowBytes.{Wide, wide_tail}

@@ -1,5 +1,5 @@
 -- The part that the last entry names starts at a place, and the place of the other entries' permutation in the list below is added.
-use mathlib.Core.Path.{◌≡◌, sym}
+use mathlib.Core.Path.{◌≡◌}
 use Prim.Native.Nat.{ℕ, ◌+◌, ◌-◌, ◌*◌, ◌<◌}
 use native.Mathlib.Omega.{arith}
 use lib.ListN.{length, take}
@@ -57,9 +57,9 @@ found t c =
     let a = c.args.a.now in
     let q = c.part_with-part.result in
     let both : PlaceIn q.backward (length a - 1) q.cycles (product (take (length a - 1) a)) c.if-part.below.starts
-        × (c.if-part.below.additions ≡ passed (length a - 1) q.cycles q.backward (product (take (length a - 1) a))) =
+    × (c.if-part.below.additions ≡ passed (length a - 1) q.cycles q.backward (product (take (length a - 1) a))) =
     elim c.if-part.branch [
-      rank_reading-then-part w ↦ let e = w.rank_backward-below.ensures in from-below a q h w.if-part.true w.below-is (e.place, e.counted)
+      | rank_reading-then-part w ↦ let e = w.rank_backward-below.ensures in from-below a q h w.if-part.true w.below-is (e.place, e.counted)
       | rank_reading-else-part w ↦ let e = w.rank_forward-below.ensures in from-below a q h w.if-part.false w.below-is (e.place, e.counted)
     ] in
     ranked c.requires.rankable h c.args.backward c.part_with-part.ensures both.0 both.1

@@ -1,9 +1,8 @@
 -- Below the part that holds the place stands a row, into which n is put.
-use mathlib.Core.Path.{◌≡◌, sym, ap, ◌∙◌}
+use mathlib.Core.Path.{◌≡◌}
 use mathlib.Core.Bool.{true, false}
-use Prim.Native.Nat.{ℕ, ◌+◌, ◌-◌, ◌*◌, ◌≤◌, ◌<◌}
+use Prim.Native.Nat.{ℕ, ◌+◌, ◌-◌, ◌≤◌, ◌<◌}
 use native.Mathlib.Omega.{arith}
-use lib.ListN.{length}
 use Rattle.stirling.specs.Count.{c}
 use Rattle.stirling.proofs.Counts.{inside}
 use Rattle.gray.specs.Listing.{row_at}
@@ -76,12 +75,12 @@ below t s =
     let a = s.args in
     let q = s.part_at-part.result in
     elim s.if-part.branch [
-      unrank_reading-then-part w ↦
-        let e = w.unrank_backward-additions.ensures in
-        below_written (a.n - 1) (a.place - q.start) q true w.if-part.true w.out-is w.additions-is (e.row, e.counted)
+      | unrank_reading-then-part w ↦
+          let e = w.unrank_backward-additions.ensures in
+          below_written (a.n - 1) (a.place - q.start) q true w.if-part.true w.out-is w.additions-is (e.row, e.counted)
       | unrank_reading-else-part w ↦
-        let e = w.unrank_forward-additions.ensures in
-        below_written (a.n - 1) (a.place - q.start) q false w.if-part.false w.out-is w.additions-is (e.row, e.counted)
+          let e = w.unrank_forward-additions.ensures in
+          below_written (a.n - 1) (a.place - q.start) q false w.if-part.false w.out-is w.additions-is (e.row, e.counted)
     ]
 
 pub unrank_reading-put_in-requires : goal.unrank_reading-put_in-requires

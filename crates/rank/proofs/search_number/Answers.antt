@@ -31,14 +31,14 @@ extends c =
 goes : (c : After-pass) → let a = c.args in Going a.n a.k a.backward c.pass.result
 goes c =
     let e : IsStop c.args.n c.args.k c.args.backward c.pass_run-before.result × (c.pass_run-before.result.number ≡ c.sizes_of-sizes.result.extension) =
-        runs_on c.sizes_of-sizes.ensures c.requires.listed.0 (begins c.args.n c.args.k c.args.backward first refl refl refl) _ (omega arith) (omega (arith, c.if-number-sizes.false, c.requires.listed.1)) (λ i u v e. omega arith) c.pass_run-before.ensures in
+    runs_on c.sizes_of-sizes.ensures c.requires.listed.0 (begins c.args.n c.args.k c.args.backward first refl refl refl) _ (omega arith) (omega (arith, c.if-number-sizes.false, c.requires.listed.1)) (λ i u v e. omega arith) c.pass_run-before.ensures in
     let (at, number) = e in
     rw c.pass.ensures (goes_on c.requires.listed.0 (stopped at) at.inside (extended_is c.sizes_of-sizes.ensures at.inside number))
 
 past : (c : After-pass) → c.pass.result.number ≡ c.sizes_of-sizes.result.extension + 1
 past c =
     let e : IsStop c.args.n c.args.k c.args.backward c.pass_run-before.result × (c.pass_run-before.result.number ≡ c.sizes_of-sizes.result.extension) =
-        runs_on c.sizes_of-sizes.ensures c.requires.listed.0 (begins c.args.n c.args.k c.args.backward first refl refl refl) _ (omega arith) (omega (arith, c.if-number-sizes.false, c.requires.listed.1)) (λ i u v e. omega arith) c.pass_run-before.ensures in
+    runs_on c.sizes_of-sizes.ensures c.requires.listed.0 (begins c.args.n c.args.k c.args.backward first refl refl refl) _ (omega arith) (omega (arith, c.if-number-sizes.false, c.requires.listed.1)) (λ i u v e. omega arith) c.pass_run-before.ensures in
     ap (λ (s : Stop). s.number) c.pass.ensures ∙ omega (arith, e.1)
 
 pub pass_run-requires : goal.pass_run-requires

@@ -1,7 +1,7 @@
 -- `rank::write_identity` meets its contract. The loop's invariant: the slice begins with 1 to i, and is as it was after them. The measure is the number of values to come.
 -- Assumes nothing.
 use mathlib.Core.Path.{◌≡◌}
-use Prim.Native.Nat.{◌+◌, ◌-◌, ◌≤◌}
+use Prim.Native.Nat.{◌-◌, ◌≤◌}
 use mathlib.Core.List.{◌++◌}
 use lib.ListN.{length, drop}
 use Rattle.perm.specs.Lists.{positions}
