@@ -14,7 +14,7 @@ use Rattle.stirling.proofs.Refusals.{and-true}
 use Rattle.perm.specs.Lists.{same}
 use Rattle.perm.proofs.Same.{same_equal, same_true}
 use Rattle.sheet.specs.Text.{SPACE, LF, header, is_digit, value_from}
-use Rattle.sheet.specs.Asked.{leading, begins, number_in, field, asked_line, asked_in}
+use Rattle.sheet.specs.Asked.{leading, number_in, field, asked_line, asked_in}
 use Rattle.sheet.specs.Rewriting.{sheet_text}
 use Rattle.sheet.specs.Form.{AllDigits, Writes, IsSheet}
 use Rattle.sheet.specs.declared.Asked.{Asked}

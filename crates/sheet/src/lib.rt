@@ -1,4 +1,6 @@
 // The text of a sheet, on byte slices: what it asks for, the answer, and a filed sheet rewritten.
+#![tactic(auto)]
+
 ghost use Rattle.std.specs.Prelude.{◌≡◌, true, false, [], ◌∷◌, ◌++◌, ◌+◌, ◌<◌, length, take, drop};
 ghost use Rattle.perm.specs.Lists.{same, positions};
 ghost use Rattle.gray.specs.Order.{S};
@@ -41,7 +43,7 @@ const MOST_ROWS: usize = 1000;
 const PAGE: usize = MOST_ROWS * LARGEST;
 
 // By which grammar a text is read: since document 02, m), no number but `0` begins with 0; in filed sheets it may.
-#[derive(Drop)]
+#[derive(Clone, Copy)]
 pub enum Grammar {
     Current,
     Filed,
