@@ -13,7 +13,7 @@ in_range : (c : Else-not-is_within) → InRange c.args.w
 in_range c =
     record {
       listed = sym c.check_place.ensures ∙ c.if-check_place-ne0.false;
-      inside = sym c.is_Within.ensures ∙ not-false c.is_Within.result c.if-not-is_within.false;
+      inside = sym c.is_within.ensures ∙ c.if-not-is_within.false;
     }
 
 -- and the record is what is compared
@@ -33,7 +33,7 @@ agrees_perm : (c : Else-not-equal) → same c.args.w.perm (observe (machine_of c
 agrees_perm c =
     let same_perm' : c.equal.result ≡ same c.args.w.perm (observe (machine_of c.args.w)).perm =
       c.equal.ensures ∙ ap (λ right. same c.args.w.perm right.cursor.perm) c.counted_at-counted.ensures in
-     sym (same_perm') ∙ not-false c.equal.result c.if-not-equal.false
+     sym (same_perm') ∙ c.if-not-equal.false
 
 pub returns-then-check_place-ne0 : goal.returns-then-check_place-ne0
 returns-then-check_place-ne0 c = rw (sound_refuses c.args.w (λ r. c.if-check_place-ne0.true (c.check_place.ensures ∙ r.listed)))
@@ -41,20 +41,20 @@ returns-then-check_place-ne0 c = rw (sound_refuses c.args.w (λ r. c.if-check_pl
 pub returns-then-not-is_within : goal.returns-then-not-is_within
 returns-then-not-is_within c =
     let w = c.args.w in
-    let outside = not-true c.is_Within.result c.if-not-is_within.true in
-    rw (sound_refuses w (λ r. false≢true (sym outside ∙ c.is_Within.ensures ∙ r.inside)))
+    let outside = c.if-not-is_within.true in
+    rw (sound_refuses w (λ r. false≢true (sym outside ∙ c.is_within.ensures ∙ r.inside)))
 
 pub returns-then-not-equal : goal.returns-then-not-equal
 returns-then-not-equal c =
-    let differs = sym (same_perm (goal.at.returns-then-not-equal c).After-equal) ∙ not-true c.equal.result c.if-not-equal.true in
+    let differs = sym (same_perm (goal.at.returns-then-not-equal c).After-equal) ∙ c.if-not-equal.true in
     rw (decides (goal.at.returns-then-not-equal c).Else-not-is_within, differs)
 
 pub returns-then-not-equal-2 : goal.returns-then-not-equal-2
 returns-then-not-equal-2 c =
-    let differs = sym (same_array (goal.at.returns-then-not-equal-2 c).After-equal-2) ∙ not-true c.equal-2.result c.if-not-equal-2.true in
+    let differs = sym (same_array (goal.at.returns-then-not-equal-2 c).After-equal-2) ∙ c.if-not-equal-2.true in
     rw (decides (goal.at.returns-then-not-equal-2 c).Else-not-is_within, agrees_perm (goal.at.returns-then-not-equal-2 c).Else-not-equal, differs)
 
 pub returns : goal.returns
 returns c =
-    let agrees = sym (same_array (goal.at.returns c).After-equal-2) ∙ not-false c.equal-2.result c.if-not-equal-2.false in
+    let agrees = sym (same_array (goal.at.returns c).After-equal-2) ∙ c.if-not-equal-2.false in
     rw (decides (goal.at.returns c).Else-not-is_within, agrees_perm (goal.at.returns c).Else-not-equal, agrees, c.counted_at-counted.ensures)

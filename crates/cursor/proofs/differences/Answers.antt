@@ -14,7 +14,7 @@ loop-i-preserved c =
     let s = args.s.now in
     let t = args.t.now in (
       omega arith,
-      elim c.if-s-i.branch [ then-s-i w ↦ rw w.1 (differ-here s t (λ e. omega (arith, w.if-s-i.true)) h.invariant.1) | else-s-i w ↦ rw w.1 (differ-other s t (omega (arith, w.if-s-i.false)) h.invariant.1) ],
+      elim c.if-s-i.branch [ then-s-i w ↦ rw w.count-is (differ-here s t (λ e. omega (arith, w.if-s-i.true)) h.invariant.1) | else-s-i w ↦ rw w.count-is (differ-other s t (omega (arith, w.if-s-i.false)) h.invariant.1) ],
     )
 
 pub returns : goal.returns

@@ -25,7 +25,7 @@ beside m false = refl
 
 -- it is sound
 passed : (c : Else-not-is_sound) → sound c.args.w ≡ true
-passed c = passes c.is_sound.ensures c.if-not-is_sound.false
+passed c = passes c.is_sound.ensures (rw c.if-not-is_sound.false)
 
 -- past the second test the step is not refused
 served : (c : Else-refusal-ne0) → refusal_of (machine_of c.args.w) (called_for c.args.onward) ≡ 0
@@ -36,7 +36,7 @@ leads : (c : After-place_beside) → c.place_beside.result ≡ destination (mach
 leads c = c.place_beside.ensures ∙ beside (machine_of c.args.w) c.args.onward
 
 pub returns-then-not-is_sound : goal.returns-then-not-is_sound
-returns-then-not-is_sound c = c.refused.ensures ∙ sym (called-unsound _ _ (fails c.is_sound.ensures c.if-not-is_sound.true))
+returns-then-not-is_sound c = c.refused.ensures ∙ sym (called-unsound _ _ (fails c.is_sound.ensures (rw c.if-not-is_sound.true)))
 
 pub returns-then-refusal-ne0 : goal.returns-then-refusal-ne0
 returns-then-refusal-ne0 c =

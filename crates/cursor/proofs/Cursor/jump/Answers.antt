@@ -16,23 +16,23 @@ use Rattle.cursor.proofs.Cursor.jump.Goals as goal
 
 -- past the first test the record is sound
 passed : (c : Else-not-is_sound) → sound c.args.self ≡ true
-passed c = passes c.is_sound.ensures c.if-not-is_sound.false
+passed c = passes c.is_sound.ensures (rw c.if-not-is_sound.false)
 
 -- is one of the list
 listed : (c : Else-place-lookup) → leb (count_of c.args.self.n c.args.self.k) c.args.place ≡ false
 listed c =
     let passed' : sound c.args.self ≡ true =
-      passes c.is_sound.ensures c.if-not-is_sound.false in
+      passes c.is_sound.ensures (rw c.if-not-is_sound.false) in
     let count = sound-count c.args.self (passed') in
     lt-leb (count_of c.args.self.n c.args.self.k) c.args.place (omega arith)
 
 -- and the third test asks whether it is one of the section
-asked : (c : After-is_within) → c.is_Within.result ≡ within c.args.self.lowest c.args.self.highest c.args.place
-asked c = c.is_Within.ensures
+asked : (c : After-is_within) → c.is_within.result ≡ within c.args.self.lowest c.args.self.highest c.args.place
+asked c = c.is_within.ensures
 
 pub returns-then-not-is_sound : goal.returns-then-not-is_sound
 returns-then-not-is_sound c =
-    c.refused.ensures ∙ sym (called-unsound c.args.self (jump c.args.place) (fails c.is_sound.ensures c.if-not-is_sound.true))
+    c.refused.ensures ∙ sym (called-unsound c.args.self (jump c.args.place) (fails c.is_sound.ensures (rw c.if-not-is_sound.true)))
 
 pub returns-then-place-lookup : goal.returns-then-place-lookup
 returns-then-place-lookup c =
@@ -46,7 +46,7 @@ pub returns-then-not-is_within : goal.returns-then-not-is_within
 returns-then-not-is_within c =
     let w = c.args.self in
     let place = c.args.place in
-    let outside = sym (asked (goal.at.returns-then-not-is_within c).After-is_within) ∙ not-true c.is_Within.result c.if-not-is_within.true in
+    let outside = sym (asked (goal.at.returns-then-not-is_within c).After-is_within) ∙ c.if-not-is_within.true in
     let out : refusal_of (machine_of w) (jump place) ≡ 13 = rw (listed (goal.at.returns-then-not-is_within c).Else-place-lookup, outside) in
     c.refused-then-not-is_within.ensures ∙ sym (called-refused w (jump place) 13 (passed (goal.at.returns-then-not-is_within c).Else-not-is_sound) out (λ e. omega arith))
 
@@ -61,6 +61,6 @@ pub returns : goal.returns
 returns c =
     let w = c.args.self in
     let place = c.args.place in
-    let there = sym (asked (goal.at.returns c).After-is_within) ∙ not-false c.is_Within.result c.if-not-is_within.false in
+    let there = sym (asked (goal.at.returns c).After-is_within) ∙ c.if-not-is_within.false in
     let served : refusal_of (machine_of w) (jump place) ≡ 0 = rw (listed (goal.at.returns c).Else-place-lookup, there) in
     rw (c.bare_answer-answer.ensures, c.cursor_at-cursor.ensures) (sym (called-moves w (jump place) (passed (goal.at.returns c).Else-not-is_sound) served))

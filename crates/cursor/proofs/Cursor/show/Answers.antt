@@ -13,11 +13,11 @@ verdict c = ap (λ r. r.sound) c.check_record-checked.ensures
 
 pub returns-then-not-checked : goal.returns-then-not-checked
 returns-then-not-checked c =
-    c.refused.ensures ∙ sym (called-unsound c.args.self show (fails (verdict (goal.at.returns-then-not-checked c).After-check_record-checked) c.if-not-checked.true))
+    c.refused.ensures ∙ sym (called-unsound c.args.self show (fails (verdict (goal.at.returns-then-not-checked c).After-check_record-checked) (rw c.if-not-checked.true)))
 
 pub returns : goal.returns
 returns c =
     let w = c.args.self in
-    let passed = passes (verdict (goal.at.returns c).After-check_record-checked) c.if-not-checked.false in
+    let passed = passes (verdict (goal.at.returns c).After-check_record-checked) (rw c.if-not-checked.false) in
     let number : c.check_record-checked.result.fixed ≡ fixed (row_of (machine_of w)) = ap (λ r. r.fixed) c.check_record-checked.ensures ∙ rw passed in
     ap (λ f. record { cursor = w; answer = held w f }) number ∙ sym (called-shows w passed)
