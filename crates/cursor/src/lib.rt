@@ -1,4 +1,6 @@
 // A cursor that walks through S(n,k), or through a section of it: a record handed over by value and handed back.
+#![tactic(auto)]
+
 ghost use Rattle.std.specs.Prelude.{◌≡◌, true, cond, ◌≤◌, ◌<◌, length, get_or, take};
 ghost use Rattle.stirling.specs.Refusal.{within};
 ghost use Rattle.stirling.specs.Count.{c, check_size, check_place};
@@ -31,7 +33,7 @@ pub const JUMP: u8 = 3;
 
 // Document 01's *walk*: n, k, the place, the lowest and the highest place of the section that it keeps to, and the permutation and the transposition array that stand at
 // the place, zero after the n-th byte.
-#[derive(Drop)]
+#[derive(Clone, Copy)]
 pub struct Cursor {
     pub n: u64,
     pub k: u64,
