@@ -1,6 +1,8 @@
 // What made it this place: for each size from n down to 1, the relation that gives the list, the block that the permutation stands in, how the list is read, and
 // how many of its rows stand before the block. The steps down are found by crate `rank`; here they get their letters and are added up. All by value: crate
 // `osierdrum` writes the rows to the caller's.
+#![tactic(auto)]
+
 ghost use Rattle.std.specs.Prelude.{◌≡◌, ◌-◌, ◌≤◌, ◌<◌, ◌^◌, ◌++◌, ltb, length, take, replicate};
 ghost use Rattle.stirling.specs.Refusal.{refuse, ◌then◌};
 ghost use Rattle.explain.specs.Levels.{letter_byte, level, lettered, total};
@@ -15,7 +17,7 @@ pub const REFUSED_LEVELS: u8 = 12;
 // A row: the letter of the relation that gives the list at this size, as its own byte b'a' to b'e', since no struct that holds an enum can be exported; whether the
 // list is read backward; the number of the block, from 0 in written order; and how many rows of the list stand before the block in that reading.
 #[repr(C)]
-#[derive(Drop)]
+#[derive(Clone, Copy)]
 pub struct Level {
     pub letter: u8,
     pub backward: bool,
@@ -70,8 +72,8 @@ fn letter_byte(letter: Letter) -> u8
 }
 
 // The row of a step in the list of size n.
-fn level_of(n: u64, step: Step) -> Level
-    ensures { result ≡ level n step }
+fn level_of(n: u64, step: &Step) -> Level
+    ensures { result ≡ level n step.now }
 {
     Level {
         letter: letter_byte(gray::letter_of(n, step.cycles)),
@@ -93,7 +95,7 @@ fn sum_up(n: usize, steps: [Step; 20]) -> Summed
     let mut place = 0;
     let mut i = 0;
     while i < n {
-        let row = level_of((n - i) as u64, steps[i]);
+        let row = level_of((n - i) as u64, &steps[i]);
         rows[i] = row;
         place += row.before;
         i += 1;
