@@ -3,17 +3,20 @@
 // which `stdout` has from a model in another language: every four bytes up to 5 and 21 zeros, with their place; and for each n up to 21 the refusals of the count, of the
 // place past the last and of place 0, and what the 20 bytes lent for both are then.
 // `stdin` has for each list how many rows it names, then n and the place of each; every number in eight bytes, its highest byte first.
-use libc::STDIN_FILENO;
+#![tactic(auto)]
+
+use std::io;
+use std::io::{BufWriter, Read, Write};
 use tree::{Kind, Place};
 
 // A number, or the refusal that stands in its place.
-fn print_answer(refusal: u8, number: u64) {
+fn print_answer<W: Write>(out: &mut W, refusal: u8, number: u64) -> io::Result<()> {
     if refusal != 0 {
-        print::text(b"refused ");
-        print::number(refusal as u64);
-        return;
+        print::text(out, b"refused ")?;
+        print::number(out, refusal as u64)?;
+        return Ok(());
     }
-    print::number(number);
+    print::number(out, number)
 }
 
 // The place of the row at a place, or the refusal: `row` is n bytes to write it to.
@@ -26,72 +29,74 @@ fn place_again(kind: Kind, n: u64, place: u64, row: &mut [u8]) -> Place {
 }
 
 // The line of a row.
-fn print_line(kind: Kind, place: u64, row: &mut [u8]) {
+fn print_line<W: Write>(out: &mut W, kind: Kind, place: u64, row: &mut [u8]) -> io::Result<()> {
     let n = row.len() as u64;
     let again = place_again(kind, n, place, row);
-    print::field(n);
-    print_answer(again.refusal, again.place);
-    print::text(b" | ");
-    print::values(row);
-    print::text(b"\n");
+    print::field(out, n)?;
+    print_answer(out, again.refusal, again.place)?;
+    print::text(out, b" | ")?;
+    print::values(out, row)?;
+    print::text(out, b"\n")
 }
 
 // The same, with space for the row.
-fn print_row(kind: Kind, n: usize, place: u64) {
+fn print_row<W: Write>(out: &mut W, kind: Kind, n: usize, place: u64) -> io::Result<()> {
     if 20 < n {
-        return;
+        return Ok(());
     }
     let mut row = [0u8; 20];
-    print_line(kind, place, &mut row[..n]);
+    print_line(out, kind, place, &mut row[..n])
 }
 
 // The number in the next eight bytes of the input; bytes that are missing are 0.
-fn next_number() -> u64 {
+fn next_number<R: Read>(input: &mut R) -> u64 {
     let mut bytes = [0u8; 8];
-    io::read_full(STDIN_FILENO, &mut bytes);
+    print::read_full(input, &mut bytes);
     print::place_of(&bytes)
 }
 
 // The lines of the rows that the input names next.
-fn print_rows(kind: Kind) {
-    let named = next_number();
+fn print_rows<R: Read, W: Write>(input: &mut R, out: &mut W, kind: Kind) -> io::Result<()> {
+    let named = next_number(input);
     let mut printed = 0;
     while printed < named {
-        let n = next_number();
-        let place = next_number();
-        print_row(kind, n as usize, place);
+        let n = next_number(input);
+        let place = next_number(input);
+        print_row(out, kind, n as usize, place)?;
         printed += 1;
     }
+    Ok(())
 }
 
 // The line of n: how many rows there are, or the refusal.
-fn print_count(kind: Kind, n: u64) {
+fn print_count<W: Write>(out: &mut W, kind: Kind, n: u64) -> io::Result<()> {
     let counted = tree::count(kind, n);
-    print::field(n);
-    print_answer(counted.refusal, counted.count);
-    print::text(b"\n");
+    print::field(out, n)?;
+    print_answer(out, counted.refusal, counted.count)?;
+    print::text(out, b"\n")
 }
 
 // The lines of every n up to 20.
-fn print_counts(kind: Kind) {
+fn print_counts<W: Write>(out: &mut W, kind: Kind) -> io::Result<()> {
     let mut n = 0;
     while n <= 20 {
-        print_count(kind, n);
+        print_count(out, kind, n)?;
         n += 1;
     }
+    Ok(())
 }
 
 // The line of a list of bytes: the place, or the refusal.
-fn print_place(kind: Kind, s: &[u8]) {
+fn print_place<W: Write>(out: &mut W, kind: Kind, s: &[u8]) -> io::Result<()> {
     let found = tree::rank(kind, s);
-    print::values(s);
-    print::text(b" | ");
-    print_answer(found.refusal, found.place);
-    print::text(b"\n");
+    print::values(out, s)?;
+    print::text(out, b" | ")?;
+    print_answer(out, found.refusal, found.place)?;
+    print::text(out, b"\n")
 }
 
 // The lines of every four bytes up to 5.
-fn print_places(kind: Kind) {
+fn print_places<W: Write>(out: &mut W, kind: Kind) -> io::Result<()> {
     let mut t: u64 = 0;
     while t < 1296 {
         let s = [
@@ -100,46 +105,50 @@ fn print_places(kind: Kind) {
             (t / 6 % 6) as u8,
             (t % 6) as u8,
         ];
-        print_place(kind, &s);
+        print_place(out, kind, &s)?;
         t += 1;
     }
+    Ok(())
 }
 
 // The line of what is refused for n.
-fn print_refusals(kind: Kind, n: u64) {
+fn print_refusals<W: Write>(out: &mut W, kind: Kind, n: u64) -> io::Result<()> {
     let counted = tree::count(kind, n);
     let mut row = [0u8; 20];
     let past = tree::unrank(kind, n, counted.count, &mut row);
     let first = tree::unrank(kind, n, 0, &mut row);
-    print::field(n);
-    print::field(counted.refusal as u64);
-    print::field(past as u64);
-    print::number(first as u64);
-    print::text(b" |");
-    print::bytes(&row);
-    print::text(b"\n");
+    print::field(out, n)?;
+    print::field(out, counted.refusal as u64)?;
+    print::field(out, past as u64)?;
+    print::number(out, first as u64)?;
+    print::text(out, b" |")?;
+    print::bytes(out, &row)?;
+    print::text(out, b"\n")
 }
 
 // The lines of every n up to 21.
-fn print_all_refusals(kind: Kind) {
+fn print_all_refusals<W: Write>(out: &mut W, kind: Kind) -> io::Result<()> {
     let mut n = 0;
     while n <= 21 {
-        print_refusals(kind, n);
+        print_refusals(out, kind, n)?;
         n += 1;
     }
+    Ok(())
 }
 
 // All lines of a list.
-fn print_list(kind: Kind) {
-    print_rows(kind);
-    print_counts(kind);
-    print_places(kind);
+fn print_list<R: Read, W: Write>(input: &mut R, out: &mut W, kind: Kind) -> io::Result<()> {
+    print_rows(input, out, kind)?;
+    print_counts(out, kind)?;
+    print_places(out, kind)?;
     let long = [0u8; 21];
-    print_place(kind, &long);
-    print_all_refusals(kind);
+    print_place(out, kind, &long)?;
+    print_all_refusals(out, kind)
 }
 
-fn main() {
-    print_list(Kind::Involution);
-    print_list(Kind::Bell);
+fn main(rt: HostRuntime) -> io::Result<()> {
+    let mut out = BufWriter::new(rt.alloc(), rt.stdout())?;
+    print_list(&mut rt.stdin(), &mut out, Kind::Involution)?;
+    print_list(&mut rt.stdin(), &mut out, Kind::Bell)?;
+    out.flush()
 }
