@@ -2,8 +2,10 @@
 #![tactic(auto)]
 
 ghost use Rattle.std.specs.Prelude.{◌≡◌, true, false, [], ◌∷◌, ◌++◌, ◌+◌, ◌<◌, length, take, drop};
+ghost use Rattle.stirling.specs.Count.{check_place};
 ghost use Rattle.perm.specs.Lists.{same, positions};
 ghost use Rattle.gray.specs.Order.{S};
+ghost use Rattle.gray.specs.Listing.{row_at};
 ghost use Rattle.rank.specs.Place.{check_row_count};
 ghost use Rattle.sheet.specs.Text.{SPACE, column_name, is_digit, decimal};
 ghost use Rattle.sheet.specs.Asked.{is_filed_number, number_in, asked_line, asked_in};
@@ -14,7 +16,7 @@ ghost use Rattle.sheet.specs.Written.{CAPACITY, REWRITTEN_CAPACITY, Answered, Ro
 
 // A slice of so many bytes suffices for the answer to any text: a line of names of at most 5 + 20×7 + 1 bytes, and at most 1,000 rows of at most
 // 20 + 20×3 + 1 bytes.
-pub const CAPACITY: usize = 146 + MOST_ROWS * 81;
+pub const CAPACITY: usize = 146 + 1000 * 81;
 
 // A slice of so many bytes suffices for any sheet rewritten: the header, and four numbers of at most 19 digits, each with the byte that ends it.
 pub const REWRITTEN_CAPACITY: usize = HEADER_SIZE + 4 * (MOST_DIGITS + 1);
@@ -36,11 +38,6 @@ const LONGEST: usize = 4096;
 const MOST_DIGITS: usize = 19;
 
 const LARGEST: usize = 20;
-
-// The most rows of a sheet, and the most bytes of them.
-const MOST_ROWS: usize = 1000;
-
-const PAGE: usize = MOST_ROWS * LARGEST;
 
 // By which grammar a text is read: since document 02, m), no number but `0` begins with 0; in filed sheets it may.
 #[derive(Clone, Copy)]
@@ -362,20 +359,28 @@ fn put_row(place: u64, row: &[u8], out: &mut [u8], at: usize) -> usize
     put_byte(b'\n', out, valued)
 }
 
-// Writes the lines of m rows of S(n,k) from a place on. One call makes all the rows: row i of them is n bytes from byte i × n on.
+// Writes the line of the row of S(n,k) at a place.
+fn put_place(n: u64, k: u64, place: u64, out: &mut [u8], at: usize) -> usize
+    requires place_value { check_place n k place ≡ 0 }
+    requires room { Room out.old at (row_line place (row_at (S n k) place)) }
+    ensures { Wrote out.old at (row_line place (row_at (S n k) place)) result out.new }
+{
+    let size = n as usize;
+    let mut row = [0u8; LARGEST];
+    rank::unrank(n, k, place, &mut row[..size]);
+    put_row(place, &row[..size], out, at)
+}
+
+// Writes the lines of m rows of S(n,k) from a place on.
 fn put_rows(n: u64, k: u64, place: u64, m: u64, out: &mut [u8], at: usize) -> usize
     requires m_value { check_row_count n k place m ≡ 0 }
     requires room { Room out.old at (row_lines place (take m (drop place (S n k)))) }
     ensures { Wrote out.old at (row_lines place (take m (drop place (S n k)))) result out.new }
 {
-    let mut page = [0u8; PAGE];
-    rank::rows(n, k, place, m, 0, &mut page);
     let mut end = at;
     let mut done = 0;
     while done < m {
-        let start = (done * n) as usize;
-        let stop = start + n as usize;
-        end = put_row(place + done, &page[start..stop], out, end);
+        end = put_place(n, k, place + done, out, end);
         done += 1;
     }
     end

@@ -1,5 +1,5 @@
--- `sheet::put_rows` meets its contract: the line of row i of the page is the next to write after i lines. The loop's invariant: the lines of the rows from
--- place + done on are left to write. The measure is how many they are. Assumes nothing.
+-- `sheet::put_rows` meets its contract. The loop's invariant: the lines of the rows from place + done on are left to write. The measure is how many
+-- they are. Assumes nothing.
 use Prim.Native.Nat.{◌+◌, ◌-◌, ◌≤◌}
 use lib.ListN.{take, drop}
 use Rattle.gray.specs.Order.{S}
