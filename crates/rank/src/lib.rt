@@ -654,7 +654,7 @@ fn smaller(a: u64, b: u64) -> u64
 
 // `count` rows of S(n,k) from a place of a reading on, `apart` bytes from each other. It goes through the blocks that the rows lie in: what stands below a block is written
 // by this function, into the part of `out` that the block's rows fill, and then n is put into each of them.
-fn write_rows(
+fn fill_rows(
     counts: &[u64],
     n: u64,
     k: u64,
@@ -686,7 +686,7 @@ fn write_rows(
         let part = part_of(n, k, backward, stop);
         let at = (done * apart) as usize;
         let end = at + (here * apart) as usize;
-        write_rows(
+        fill_rows(
             counts,
             n - 1,
             part.cycles,
@@ -704,6 +704,16 @@ fn write_rows(
     }
 }
 
+// The m rows of S(n,k) from a place on, one after another, at the front of `part`; the bytes after them stay.
+fn write_rows(counts: &[u64], n: u64, k: u64, place: u64, m: u64, part: &mut [u8])
+    requires table { IsTable counts.now }
+    requires m_value { check_row_count n k place m ≡ 0 }
+    requires n_in_bounds { m * n ≤ length part.old }
+    ensures { part.new ≡ rows_from n k place m ++ drop (m * n) part.old }
+{
+    fill_rows(counts, n, k, false, place, m, n, part);
+}
+
 // The m rows of S(n,k) from a place on, one after another, written to `buf` from byte o on; the bytes before and after them stay.
 // Refusals in document 01's order; a refused call writes nothing.
 pub fn rows(n: u64, k: u64, place: u64, m: u64, o: u64, buf: &mut [u8]) -> u8
@@ -719,6 +729,6 @@ pub fn rows(n: u64, k: u64, place: u64, m: u64, o: u64, buf: &mut [u8]) -> u8
         return room_refusal;
     }
     let from = o as usize;
-    write_rows(&counts, n, k, false, place, m, n, &mut buf[from..]);
+    write_rows(&counts, n, k, place, m, &mut buf[from..]);
     0
 }

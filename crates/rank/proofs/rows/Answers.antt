@@ -1,14 +1,12 @@
 -- `rank::rows` meets its contract: a refused call leaves the buffer as it was, and otherwise the part from o on comes back with m rows at its front.
 -- Assumes nothing.
-use Prim.Native.Nat.{◌≤◌, ◌+◌, ◌-◌, ◌*◌}
+use Prim.Native.Nat.{◌≤◌, ◌+◌, ◌*◌}
 use native.Mathlib.Omega.{arith}
 use mathlib.Core.Path.{◌≡◌}
-use lib.ListN.{length, take, drop, length-drop}
-use lib.Seq.{length-take-le}
+use lib.ListN.{length}
 use Rattle.rank.specs.Place.{check_row_count}
-use Rattle.rank.proofs.RowChecks.{row-count_passed, rows_passes}
+use Rattle.rank.proofs.RowChecks.{rows_passes}
 use Rattle.rank.proofs.RowBytes.{rows-put}
-use Rattle.rank.proofs.Paging.{page_written}
 use Rattle.rank.proofs.rows.Goals as goal
 
 pub returns : goal.returns
@@ -16,11 +14,6 @@ returns c =
     let a = c.args in
     let passed : check_row_count a.n a.k a.place a.m ≡ 0 = omega arith in
     let room : a.o + a.m * a.n ≤ length a.buf.now = c.check_room-room_refusal.ensures.passes (omega arith) in
-    let on = row-count_passed a.n a.k a.place a.m passed in
-    let behind = drop a.o a.buf.now in
-    let size : length behind ≡ length a.buf.now - a.o = length-drop a.o a.buf.now in
-    let lent : a.m * a.n ≤ length (take (length a.buf.now - a.o) behind) =
-    omega (arith, room, size, length-take-le (length a.buf.now - a.o) behind (omega arith)) in
     rows-put a.n a.k a.place a.m a.o a.buf.now _
     (rows_passes a.n a.k a.place a.m a.o _ passed room)
-    (page_written a.n a.k a.place a.m (take (length a.buf.now - a.o) behind) _ on.3 lent c.write_rows.ensures)
+    c.write_rows.ensures

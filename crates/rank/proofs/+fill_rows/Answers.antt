@@ -14,8 +14,8 @@ use Rattle.rank.proofs.Parts.{holds_place}
 use Rattle.rank.proofs.Reading.{position_in}
 use Rattle.rank.proofs.Paging.{listed-rows, row_written, none_written, part-start, part-size, once, length_lent, length-once, block_written}
 use Rattle.rank.proofs.RowBytes.{rows_of}
-use Rattle.rank.proofs.+write_rows.Goals.{After-part_of-part, After-put_apart, After-size_at-size, After-write_rows, At-loop-stop, Else-count-eq1}
-use Rattle.rank.proofs.+write_rows.Goals as goal
+use Rattle.rank.proofs.+fill_rows.Goals.{After-part_of-part, After-put_apart, After-size_at-size, After-fill_rows, At-loop-stop, Else-count-eq1}
+use Rattle.rank.proofs.+fill_rows.Goals as goal
 
 -- two rows or more are asked for, so the list has blocks
 listed : (t : ℕ) (c : Else-count-eq1 t) → Listed c.args.n c.args.k
@@ -73,11 +73,11 @@ room t q =
     omega (arith, add-mul q.loop-stop.done here q.args.apart, mul-le-mul_right q.args.apart (here_in t q).1, q.requires.fillable.lent, q.loop-stop.invariant.3)
 
 -- the slice after the rows below have come back is as long as it was
-back : (t : ℕ) (w : After-write_rows t)
+back : (t : ℕ) (w : After-fill_rows t)
     → let from = w.loop-stop.done * w.args.apart in
     let size = w.smaller-here.result * w.args.apart in
-    from + size ≤ length w.loop-stop.out → length (once from (from + size - from) w.loop-stop.out w.write_rows.new.out) ≡ length w.loop-stop.out
-back t w r = length-once (w.loop-stop.done * w.args.apart) (w.smaller-here.result * w.args.apart) w.loop-stop.out w.write_rows.new.out r w.write_rows.auto.out
+    from + size ≤ length w.loop-stop.out → length (once from (from + size - from) w.loop-stop.out w.fill_rows.new.out) ≡ length w.loop-stop.out
+back t w r = length-once (w.loop-stop.done * w.args.apart) (w.smaller-here.result * w.args.apart) w.loop-stop.out w.fill_rows.new.out r w.fill_rows.auto.out
 
 -- after both calls the block's rows are written too
 written : (t : ℕ) (z : After-put_apart t)
@@ -89,8 +89,8 @@ written : (t : ℕ) (z : After-put_apart t)
     → HoldsPlace a.n a.k a.backward (a.place + z.loop-stop.done) z.part_of-part.result
     → (1 ≤ here) × (z.loop-stop.done + here ≤ a.count) × (a.place + z.loop-stop.done - z.loop-stop.stop.start + here ≤ c (a.n - 1) z.part_of-part.result.cycles)
     → from + size ≤ length z.loop-stop.out
-    → length (once from (from + size - from) z.loop-stop.out z.write_rows.new.out) ≡ length z.loop-stop.out
-    → let out = once from (from + size - from) (once from (from + size - from) z.loop-stop.out z.write_rows.new.out) z.put_apart.new.out in
+    → length (once from (from + size - from) z.loop-stop.out z.fill_rows.new.out) ≡ length z.loop-stop.out
+    → let out = once from (from + size - from) (once from (from + size - from) z.loop-stop.out z.fill_rows.new.out) z.put_apart.new.out in
     (length out ≡ length a.out.now) × (out ≡ rows_apart a.apart (rows_of a.backward a.n a.k a.place (z.loop-stop.done + here)) a.out.now)
 written t z w stop holding many r same =
     let a = z.args in
@@ -104,11 +104,11 @@ written t z w stop holding many r same =
     ap (λ (x : ℕ). a.place + z.loop-stop.done - x) (sym (part-start stop z.part_of-part.ensures)) in
     let gap : from + size - from ≡ here * a.apart = omega arith in
     let bytes : (z.loop-stop.done + here) * a.apart ≤ length a.out.now = omega (arith, add-mul z.loop-stop.done here a.apart, r, i.3) in (
-      length-once from size (once from (from + size - from) z.loop-stop.out z.write_rows.new.out) last (rw same r) z.put_apart.auto.out ∙ same ∙ i.3,
+      length-once from size (once from (from + size - from) z.loop-stop.out z.fill_rows.new.out) last (rw same r) z.put_apart.auto.out ∙ same ∙ i.3,
       block_written a.n a.place z.loop-stop.done here a.apart _ (from + size - from) a.out.now z.loop-stop.out
-          z.write_rows.new.out last first-is gap w.small.0 f.wide holding
+          z.fill_rows.new.out last first-is gap w.small.0 f.wide holding
           (omega (arith, many.1, f.rows)) many.2 bytes i.3 i.4
-          z.write_rows.auto.out z.write_rows.ensures z.put_apart.ensures,
+          z.fill_rows.auto.out z.fill_rows.ensures z.put_apart.ensures,
     )
 
 pub returns-then-count-eq1 : goal.returns-then-count-eq1
@@ -153,31 +153,31 @@ overflow_add-end t c = omega (arith, room t c)
 pub overflow_sub-n : goal.overflow_sub-n
 overflow_sub-n t c = (listed t (goal.at.overflow_sub-n t c).Else-count-eq1).small.0
 
-pub slice_bounds-write_rows-end : goal.slice_bounds-write_rows-end
-slice_bounds-write_rows-end t c = omega (arith, room t c)
+pub slice_bounds-fill_rows-end : goal.slice_bounds-fill_rows-end
+slice_bounds-fill_rows-end t c = omega (arith, room t c)
 
-pub write_rows-requires : goal.write_rows-requires
-write_rows-requires t c =
+pub fill_rows-requires : goal.fill_rows-requires
+fill_rows-requires t c =
     let f = c.requires.fillable in
-    let some = (listed t (goal.at.write_rows-requires t c).Else-count-eq1).small.0 in
-    let many = here_in t (goal.at.write_rows-requires t c).After-part_of-part in (
+    let some = (listed t (goal.at.fill_rows-requires t c).Else-count-eq1).small.0 in
+    let many = here_in t (goal.at.fill_rows-requires t c).After-part_of-part in (
       omega (arith, c.decreases),
-      (c.requires.table, record { small = omega (arith, f.small); some = many.0; rows = many.2; wide = omega (arith, f.wide); lent = rw (length_lent (c.loop-stop.done * c.args.apart) (c.smaller-here.result * c.args.apart) c.loop-stop.out (room t (goal.at.write_rows-requires t c).After-part_of-part)) (omega arith) }),
+      (c.requires.table, record { small = omega (arith, f.small); some = many.0; rows = many.2; wide = omega (arith, f.wide); lent = rw (length_lent (c.loop-stop.done * c.args.apart) (c.smaller-here.result * c.args.apart) c.loop-stop.out (room t (goal.at.fill_rows-requires t c).After-part_of-part)) (omega arith) }),
     )
 
 pub put_apart-requires : goal.put_apart-requires
 put_apart-requires t c =
     let f = c.requires.fillable in
     let in_list = position_in (listed t (goal.at.put_apart-requires t c).Else-count-eq1).small.0 (holds t (goal.at.put_apart-requires t c).After-part_of-part) in
-    (in_list.0, in_list.1, f.small, f.wide, rw (length_lent (c.loop-stop.done * c.args.apart) (c.smaller-here.result * c.args.apart) (once (c.loop-stop.done * c.args.apart) ((c.loop-stop.done * c.args.apart) + (c.smaller-here.result * c.args.apart) - (c.loop-stop.done * c.args.apart)) c.loop-stop.out c.write_rows.new.out) (rw (back t (goal.at.put_apart-requires t c).After-write_rows (room t (goal.at.put_apart-requires t c).After-part_of-part)) (room t (goal.at.put_apart-requires t c).After-part_of-part))) (omega arith))
+    (in_list.0, in_list.1, f.small, f.wide, rw (length_lent (c.loop-stop.done * c.args.apart) (c.smaller-here.result * c.args.apart) (once (c.loop-stop.done * c.args.apart) ((c.loop-stop.done * c.args.apart) + (c.smaller-here.result * c.args.apart) - (c.loop-stop.done * c.args.apart)) c.loop-stop.out c.fill_rows.new.out) (rw (back t (goal.at.put_apart-requires t c).After-fill_rows (room t (goal.at.put_apart-requires t c).After-part_of-part)) (room t (goal.at.put_apart-requires t c).After-part_of-part))) (omega arith))
 
 pub returns-then-done-count : goal.returns-then-done-count
 returns-then-done-count t c =
     let all : _ ≡ _ = c.if-done-count.true in
-    rw all at (written t (goal.at.returns-then-done-count t c).After-put_apart (at_hand t (goal.at.returns-then-done-count t c).After-part_of-part).0 (at_hand t (goal.at.returns-then-done-count t c).After-part_of-part).2 (holds t (goal.at.returns-then-done-count t c).After-part_of-part) (here_in t (goal.at.returns-then-done-count t c).After-part_of-part) (room t (goal.at.returns-then-done-count t c).After-part_of-part) (back t (goal.at.returns-then-done-count t c).After-write_rows (room t (goal.at.returns-then-done-count t c).After-part_of-part))).1
+    rw all at (written t (goal.at.returns-then-done-count t c).After-put_apart (at_hand t (goal.at.returns-then-done-count t c).After-part_of-part).0 (at_hand t (goal.at.returns-then-done-count t c).After-part_of-part).2 (holds t (goal.at.returns-then-done-count t c).After-part_of-part) (here_in t (goal.at.returns-then-done-count t c).After-part_of-part) (room t (goal.at.returns-then-done-count t c).After-part_of-part) (back t (goal.at.returns-then-done-count t c).After-fill_rows (room t (goal.at.returns-then-done-count t c).After-part_of-part))).1
 
 pub loop-stop-preserved : goal.loop-stop-preserved
 loop-stop-preserved t c =
     let many = here_in t (goal.at.loop-stop-preserved t c).After-part_of-part in
-    let w = written t (goal.at.loop-stop-preserved t c).After-put_apart (at_hand t (goal.at.loop-stop-preserved t c).After-part_of-part).0 (at_hand t (goal.at.loop-stop-preserved t c).After-part_of-part).2 (holds t (goal.at.loop-stop-preserved t c).After-part_of-part) (here_in t (goal.at.loop-stop-preserved t c).After-part_of-part) (room t (goal.at.loop-stop-preserved t c).After-part_of-part) (back t (goal.at.loop-stop-preserved t c).After-write_rows (room t (goal.at.loop-stop-preserved t c).After-part_of-part)) in
+    let w = written t (goal.at.loop-stop-preserved t c).After-put_apart (at_hand t (goal.at.loop-stop-preserved t c).After-part_of-part).0 (at_hand t (goal.at.loop-stop-preserved t c).After-part_of-part).2 (holds t (goal.at.loop-stop-preserved t c).After-part_of-part) (here_in t (goal.at.loop-stop-preserved t c).After-part_of-part) (room t (goal.at.loop-stop-preserved t c).After-part_of-part) (back t (goal.at.loop-stop-preserved t c).After-fill_rows (room t (goal.at.loop-stop-preserved t c).After-part_of-part)) in
     (omega (arith, many.1, c.if-done-count.false), c.loop-stop.invariant.1, omega (arith, c.loop-stop.invariant.2), w.0, w.1)

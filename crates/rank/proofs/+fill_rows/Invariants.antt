@@ -1,4 +1,4 @@
--- `rank::write_rows` calls itself with n falling. The loop's invariant: the running start is that of the block at hand and not past the next row, and the rows before
+-- `rank::fill_rows` calls itself with n falling. The loop's invariant: the running start is that of the block at hand and not past the next row, and the rows before
 -- that one are written. The loop's measure is the number of blocks and of rows left.
 use Prim.Native.Nat.{◌+◌, ◌-◌, ◌≤◌, ◌<◌}
 use mathlib.Core.Path.{◌≡◌}
@@ -7,10 +7,10 @@ use Rattle.gray.specs.Blocks.{blocks}
 use Rattle.rank.specs.Spacing.{rows_apart}
 use Rattle.rank.proofs.Going.{Going}
 use Rattle.rank.proofs.RowBytes.{rows_of}
-use Rattle.rank.proofs.+write_rows.Given as goal
+use Rattle.rank.proofs.+fill_rows.Given as goal
 
-abbrev pub decreases-write_rows : goal.decreases-write_rows
-decreases-write_rows l = l.n
+abbrev pub decreases-fill_rows : goal.decreases-fill_rows
+decreases-fill_rows l = l.n
 
 abbrev pub invariant-loop-stop : goal.invariant-loop-stop
 invariant-loop-stop l =
