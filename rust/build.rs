@@ -1,4 +1,4 @@
-//! Links `libosierdrum.a`, which `rt staticlib osierdrum` writes to `target/staticlib` at the repository's root.
+//! Links `libosierdrum.a`, which `tools/build osierdrum` writes to `target/staticlib` at the repository's root.
 //! Another folder can be named by the variable `OSIERDRUM_LIB_DIR`.
 
 use std::{env, path::PathBuf};
@@ -10,7 +10,7 @@ fn main() {
         here.join("../target/staticlib")
     });
     let archive = dir.join("libosierdrum.a");
-    assert!(archive.is_file(), "{} is missing: run `rt staticlib osierdrum` at the repository's root first", archive.display());
+    assert!(archive.is_file(), "{} is missing: run `tools/build osierdrum` at the repository's root first", archive.display());
     println!("cargo:rerun-if-changed={}", archive.display());
     println!("cargo:rustc-link-search=native={}", dir.display());
     println!("cargo:rustc-link-lib=static=osierdrum");

@@ -1,5 +1,5 @@
 //! The programs stablist and rewrite, as they are built, against an independent reader and writer of sheets: good sheets, filed ones with
-//! leading zeros, and damaged ones of every kind. `rt check stablist` and `rt check rewrite` at the repository's root build them.
+//! leading zeros, and damaged ones of every kind. `tools/build stablist rewrite` at the repository's root builds them.
 
 mod reference;
 
@@ -21,7 +21,7 @@ const EXAMPLE: &str = "place road1 road2 road3 road4\n5 3 2 4 1\n6 3 1 2 4\n7 2 
 /// What a program writes for a text.
 fn run(program: &str, text: &[u8]) -> String {
     let path = PathBuf::from(env!("CARGO_MANIFEST_DIR")).join("../target/bin").join(program);
-    assert!(path.is_file(), "{} is missing: run `rt check {program}` at the repository's root first", path.display());
+    assert!(path.is_file(), "{} is missing: run `tools/build {program}` at the repository's root first", path.display());
     let mut child = Command::new(path).stdin(Stdio::piped()).stdout(Stdio::piped()).spawn().expect("the program starts");
     // a text that is too long is not read to its end, so that writing it may fail
     let _ = child.stdin.take().expect("a pipe").write_all(text);
