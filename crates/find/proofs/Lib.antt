@@ -8,6 +8,7 @@ pub mod Links
 pub mod Noting
 pub mod Possible
 pub mod Searching
+pub mod Entering
 pub mod Answered
 pub mod Results
 pub mod Cases

@@ -2,6 +2,8 @@
 // list: a block is entered only if a count says that some row of it meets the wishes that are left.
 //
 // Wishes are kept as 21 bytes: index i has the wish of position i, and 0 for a free one; index 0 is no position.
+#![tactic(auto)]
+
 ghost use Rattle.std.specs.Prelude.{◌≡◌, ◌-◌, ◌≤◌, ◌<◌, true, length, get_or, set};
 ghost use Rattle.stirling.specs.Count.{c, IsTable};
 ghost use Rattle.perm.specs.Lists.{some};
@@ -43,7 +45,7 @@ const UNSOUND: ByValue = ByValue {
 };
 
 // What stands below a block of S(n,k) in a reading: the position at which the block's rows have value n, and the list S(n-1,cycles) with its reading.
-#[derive(Drop)]
+#[derive(Clone, Copy)]
 struct Part {
     position: u64,
     cycles: u64,
