@@ -1,38 +1,44 @@
 // Prints a line for each permutation that `stdin` names, n and then the n values, a byte each: the permutation, and the moves that lead to it from the identity; and where the
 // check does not say yes to them, that. `stdout` comes from another author's generator.
-use libc::STDIN_FILENO;
+#![tactic(auto)]
+
+use std::io;
+use std::io::{BufWriter, Write};
 
 // The line of a permutation.
-fn print_line(s: &[u8]) {
-    let mut out = [0u8; 60];
-    let answer = moves::list(s, &mut out);
-    print::values(s);
-    print::text(b" | ");
+fn print_line<W: Write>(out: &mut W, s: &[u8]) -> io::Result<()> {
+    let mut list = [0u8; 60];
+    let answer = moves::list(s, &mut list);
+    print::values(out, s)?;
+    print::text(out, b" | ")?;
     let size = 2 * answer.count as usize;
-    print::pairs(&out[..size]);
-    if moves::check(s, &out[..size]).valid != 1 {
-        print::text(b" not valid");
+    print::pairs(out, &list[..size])?;
+    if moves::check(s, &list[..size]).valid != 1 {
+        print::text(out, b" not valid")?;
     }
-    print::text(b"\n");
+    print::text(out, b"\n")
 }
 
 // The lines of all permutations of a text.
-fn print_all(text: &[u8]) {
+fn print_all<W: Write>(out: &mut W, text: &[u8]) -> io::Result<()> {
     let mut at = 0;
     while at < text.len() {
         let n = text[at] as usize;
         let from = at + 1;
         if n > text.len() - from {
-            return;
+            return Ok(());
         }
         let end = from + n;
-        print_line(&text[from..end]);
+        print_line(out, &text[from..end])?;
         at = end;
     }
+    Ok(())
 }
 
-fn main() {
+fn main(rt: HostRuntime) -> io::Result<()> {
     let mut text = [0u8; 4096];
-    let size = io::read_full(STDIN_FILENO, &mut text);
-    print_all(&text[..size]);
+    let size = print::read_full(&mut rt.stdin(), &mut text);
+    let mut out = BufWriter::new(rt.alloc(), rt.stdout())?;
+    print_all(&mut out, &text[..size])?;
+    out.flush()
 }
