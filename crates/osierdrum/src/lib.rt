@@ -1,4 +1,6 @@
 // The library that the Rust server links: each call as `extern "C"`, thin over the crate that does the work, with its full contract again.
+#![tactic(auto)]
+
 ghost use Rattle.std.specs.Prelude.{◌≡◌, length};
 ghost use Rattle.perm.specs.Checks.{ToArray, FromArray};
 ghost use Rattle.rank.specs.Place.{Unranked, Ranked, RowsWritten};
