@@ -1,1 +1,2 @@
 // The demands as theorems: proofs/Demands.antt. This crate has no code.
+#![tactic(auto)]
