@@ -1,7 +1,6 @@
 -- `cursor::check_record` meets its contract: out of range the record fails, and in range permutation and array are compared. Assumes nothing.
 use mathlib.Core.Path.{◌≡◌, sym, ap, ◌∙◌}
 use mathlib.Core.Bool.{true, false≢true}
-use borrow.Author.Tests.{not-true, not-false}
 use Rattle.perm.specs.Lists.{same}
 use Rattle.cursor.specs.Machine.{observe}
 use Rattle.cursor.specs.Walk.{machine_of, sound}
@@ -32,8 +31,8 @@ same_array c =
 agrees_perm : (c : Else-not-equal) → same c.args.w.perm (observe (machine_of c.args.w)).perm ≡ true
 agrees_perm c =
     let same_perm' : c.equal.result ≡ same c.args.w.perm (observe (machine_of c.args.w)).perm =
-      c.equal.ensures ∙ ap (λ right. same c.args.w.perm right.cursor.perm) c.counted_at-counted.ensures in
-     sym (same_perm') ∙ c.if-not-equal.false
+    c.equal.ensures ∙ ap (λ right. same c.args.w.perm right.cursor.perm) c.counted_at-counted.ensures in
+    sym (same_perm') ∙ c.if-not-equal.false
 
 pub returns-then-check_place-ne0 : goal.returns-then-check_place-ne0
 returns-then-check_place-ne0 c = rw (sound_refuses c.args.w (λ r. c.if-check_place-ne0.true (c.check_place.ensures ∙ r.listed)))

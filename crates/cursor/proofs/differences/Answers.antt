@@ -1,4 +1,3 @@
-use Prim.Native.Nat.{◌-◌}
 use native.Mathlib.Omega.{arith}
 use Rattle.perm.proofs.Distance.{differ_none, differ-here, differ-other, differ-all}
 use Rattle.cursor.proofs.differences.Goals.{else-s-i, then-s-i}

@@ -1,5 +1,4 @@
 use mathlib.Core.Path.{sym, ◌∙◌}
-use Prim.Native.Nat.{◌-◌}
 use native.Mathlib.Omega.{arith}
 use Rattle.cursor.proofs.Scans.{first_next, first_stops, first_ends}
 use Rattle.cursor.proofs.first_difference.Goals as goal

@@ -1,5 +1,4 @@
 use mathlib.Core.Path.{sym}
-use Prim.Native.Nat.{◌-◌}
 use native.Mathlib.Omega.{arith}
 use Rattle.cursor.proofs.Scans.{position-next, position-stops, position_ends}
 use Rattle.cursor.proofs.position_of.Goals as goal

@@ -60,10 +60,10 @@ counted : (c : After-differences-changed)
     (row_of (moved (machine_of c.args.w) c.args.place))
 counted c =
     let old_array' : take c.args.w.n c.args.w.array ≡ array_of c.args.w.n (row_of (machine_of c.args.w)) =
-      sound_array c.args.w c.requires.0 in
+    sound_array c.args.w c.requires.0 in
     let after = on_moved (machine_of c.args.w) (sound_on c.args.w c.requires.0) c.args.place c.requires.1 in
     let new_array' : take c.args.w.n c.cursor_at-cursor.result.array ≡ array_of c.args.w.n (row_of (moved (machine_of c.args.w) c.args.place)) =
-      ap (λ w. take c.args.w.n w.array) c.cursor_at-cursor.ensures ∙ take-shown_array (moved (machine_of c.args.w) c.args.place) after in
+    ap (λ w. take c.args.w.n w.array) c.cursor_at-cursor.ensures ∙ take-shown_array (moved (machine_of c.args.w) c.args.place) after in
     let old = old_array' in
     let new = new_array' in
     c.differences-changed.ensures ∙ (λ i. distance (old i) (new i))

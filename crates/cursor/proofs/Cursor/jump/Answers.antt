@@ -3,7 +3,7 @@ use mathlib.Core.Path.{◌≡◌, sym, ◌∙◌}
 use mathlib.Core.Bool.{true, false}
 use native.Mathlib.Omega.{arith}
 use lib.Dec.{leb}
-use borrow.Author.Tests.{le-leb, lt-leb, leb-false, not-true, not-false}
+use borrow.Author.Tests.{le-leb, lt-leb, leb-false}
 use Rattle.stirling.specs.Refusal.{within}
 use Rattle.stirling.specs.Count.{c as count_of}
 use Rattle.cursor.specs.Machine.{jump, refusal_of, moved}
@@ -22,7 +22,7 @@ passed c = passes c.is_sound.ensures (rw c.if-not-is_sound.false)
 listed : (c : Else-place-lookup) → leb (count_of c.args.self.n c.args.self.k) c.args.place ≡ false
 listed c =
     let passed' : sound c.args.self ≡ true =
-      passes c.is_sound.ensures (rw c.if-not-is_sound.false) in
+    passes c.is_sound.ensures (rw c.if-not-is_sound.false) in
     let count = sound-count c.args.self (passed') in
     lt-leb (count_of c.args.self.n c.args.self.k) c.args.place (omega arith)
 

@@ -16,7 +16,7 @@ passed c = sym c.check_cycles-refusal.ensures ∙ c.if-refusal-ne0.false
 counted : (c : After-lookup) → c.lookup.result ≡ count_of c.args.n c.args.k
 counted c =
     let passed' : check_cycles c.args.n c.args.k ≡ 0 =
-      sym c.check_cycles-refusal.ensures ∙ c.if-refusal-ne0.false in
+    sym c.check_cycles-refusal.ensures ∙ c.if-refusal-ne0.false in
     let a = c.args in
     c.lookup.ensures ∙ looked_up a.n a.k (cycles-passed a.n a.k (passed')).0
 
