@@ -72,8 +72,8 @@ fn letter_byte(letter: Letter) -> u8
 }
 
 // The row of a step in the list of size n.
-fn level_of(n: u64, step: &Step) -> Level
-    ensures { result ≡ level n step.now }
+fn level_of(n: u64, step: Step) -> Level
+    ensures { result ≡ level n step }
 {
     Level {
         letter: letter_byte(gray::letter_of(n, step.cycles)),
@@ -95,7 +95,7 @@ fn sum_up(n: usize, steps: [Step; 20]) -> Summed
     let mut place = 0;
     let mut i = 0;
     while i < n {
-        let row = level_of((n - i) as u64, &steps[i]);
+        let row = level_of((n - i) as u64, steps[i]);
         rows[i] = row;
         place += row.before;
         i += 1;

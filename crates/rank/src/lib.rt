@@ -88,7 +88,7 @@ struct Entries {
 
 // Where a permutation stands in the list of one size, S(m,cycles), read forward or backward: the number of its block, from 0 in written order, and how many rows
 // of the list stand before the block in that reading.
-#[derive(Drop)]
+#[derive(Clone, Copy)]
 pub struct Step {
     pub cycles: u64,
     pub backward: bool,
