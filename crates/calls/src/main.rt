@@ -1,57 +1,61 @@
 // Makes lists of calls on a cursor, one to a line of standard input, and prints each line with the whole record and the whole answer that the call hands back,
 // padding included. `open n k`, or `open n k lowest highest`, begins a list; then `forward`, `back`, `jump place` and `show`, each on the record that the line before handed back. `stdout` comes
 // from another author's generator, and `stdin` is the calls in it.
+#![tactic(auto)]
+
 ghost use Rattle.std.specs.Prelude.{◌≤◌, length};
 
 use cursor::{Answer, Cursor, Step};
-use libc::STDIN_FILENO;
+use std::io;
+use std::io::{BufWriter, Write};
 
 // A number with one more digit is read up to here, so that it fits.
 const LARGE: u64 = 1000000000000000000;
 
 // Twenty bytes in base ten, dots between.
-fn print_dotted(list: [u8; 20]) {
-    print::number(list[0] as u64);
+fn print_dotted<W: Write>(out: &mut W, list: [u8; 20]) -> io::Result<()> {
+    print::number(out, list[0] as u64)?;
     let mut i = 1;
     while i < 20 {
-        print::text(b".");
-        print::number(list[i] as u64);
+        print::text(out, b".")?;
+        print::number(out, list[i] as u64)?;
         i += 1;
     }
+    Ok(())
 }
 
 // A permutation and its array.
-fn print_pair(perm: [u8; 20], array: [u8; 20]) {
-    print_dotted(perm);
-    print::text(b" ");
-    print_dotted(array);
+fn print_pair<W: Write>(out: &mut W, perm: [u8; 20], array: [u8; 20]) -> io::Result<()> {
+    print_dotted(out, perm)?;
+    print::text(out, b" ")?;
+    print_dotted(out, array)
 }
 
 // Every field of a record.
-fn print_cursor(w: Cursor) {
+fn print_cursor<W: Write>(out: &mut W, w: Cursor) -> io::Result<()> {
     let perm = w.perm;
     let array = w.array;
-    print::field(w.n);
-    print::field(w.k);
-    print::field(w.place);
-    print::field(w.lowest);
-    print::field(w.highest);
-    print_pair(perm, array);
+    print::field(out, w.n)?;
+    print::field(out, w.k)?;
+    print::field(out, w.place)?;
+    print::field(out, w.lowest)?;
+    print::field(out, w.highest)?;
+    print_pair(out, perm, array)
 }
 
 // Every field of an answer.
-fn print_answer(to: Answer) {
+fn print_answer<W: Write>(out: &mut W, to: Answer) -> io::Result<()> {
     let perm = to.perm;
     let array = to.array;
-    print::field(to.refusal as u64);
-    print::field(to.i);
-    print::field(to.j);
-    print::field(to.l);
-    print::field(to.changed);
-    print::field(to.place);
-    print_pair(perm, array);
-    print::text(b" ");
-    print::number(to.fixed);
+    print::field(out, to.refusal as u64)?;
+    print::field(out, to.i)?;
+    print::field(out, to.j)?;
+    print::field(out, to.l)?;
+    print::field(out, to.changed)?;
+    print::field(out, to.place)?;
+    print_pair(out, perm, array)?;
+    print::text(out, b" ")?;
+    print::number(out, to.fixed)
 }
 
 // A number with one more digit; any other byte, and a digit too many, leaves it as it is.
@@ -126,15 +130,15 @@ fn make_call(w: Cursor, line: &[u8]) -> Step {
 }
 
 // Makes the call of a line and prints what it hands back.
-fn print_call(w: Cursor, line: &[u8]) -> Cursor {
+fn print_call<W: Write>(out: &mut W, w: Cursor, line: &[u8]) -> io::Result<Cursor> {
     let step = make_call(w, line);
-    print::text(line);
-    print::text(b" | ");
-    print_cursor(step.cursor);
-    print::text(b" | ");
-    print_answer(step.answer);
-    print::text(b"\n");
-    step.cursor
+    print::text(out, line)?;
+    print::text(out, b" | ")?;
+    print_cursor(out, step.cursor)?;
+    print::text(out, b" | ")?;
+    print_answer(out, step.answer)?;
+    print::text(out, b"\n")?;
+    Ok(step.cursor)
 }
 
 // Where the line ends that begins at an index.
@@ -153,18 +157,21 @@ fn line_end(text: &[u8], from: usize) -> usize
 }
 
 // The calls of all lines.
-fn make_calls(text: &[u8]) {
+fn make_calls<W: Write>(out: &mut W, text: &[u8]) -> io::Result<()> {
     let mut w = Cursor::open(0, 0).cursor;
     let mut at = 0;
     while at < text.len() {
         let end = line_end(text, at);
-        w = print_call(w, &text[at..end]);
+        w = print_call(out, w, &text[at..end])?;
         at = end + 1;
     }
+    Ok(())
 }
 
-fn main() {
+fn main(rt: HostRuntime) -> io::Result<()> {
     let mut text = [0u8; 16384];
-    let size = io::read_full(STDIN_FILENO, &mut text);
-    make_calls(&text[..size]);
+    let size = print::read_full(&mut rt.stdin(), &mut text);
+    let mut out = BufWriter::new(rt.alloc(), rt.stdout())?;
+    make_calls(&mut out, &text[..size])?;
+    out.flush()
 }

@@ -1,65 +1,78 @@
 // Prints a line for each search that `stdin` names, n, k, a place in eight bytes, its highest byte first, and n wishes, a byte each: n, k and the place, the wishes, and the place found and
 // its permutation, or the refusal. `stdout` comes from another author's generator.
+#![tactic(auto)]
+
 use find::Found;
-use libc::STDIN_FILENO;
+use std::io;
+use std::io::{BufWriter, Write};
 
 // What was found: its place and the permutation, or the refusal.
-fn print_found(found: Found, row: &[u8]) {
+fn print_found<W: Write>(out: &mut W, found: Found, row: &[u8]) -> io::Result<()> {
     if found.refusal != 0 {
-        print::text(b"refused ");
-        print::number(found.refusal as u64);
-        return;
+        print::text(out, b"refused ")?;
+        print::number(out, found.refusal as u64)?;
+        return Ok(());
     }
-    print::number(found.place);
-    print::text(b" | ");
-    print::values(row);
+    print::number(out, found.place)?;
+    print::text(out, b" | ")?;
+    print::values(out, row)
 }
 
 // The line of a search: `row` is as many bytes as there are wishes to write the permutation to.
-fn print_line(k: u64, place: u64, pattern: &[u8], row: &mut [u8]) {
+fn print_line<W: Write>(
+    out: &mut W,
+    k: u64,
+    place: u64,
+    pattern: &[u8],
+    row: &mut [u8],
+) -> io::Result<()> {
     let n = pattern.len() as u64;
     let found = find::find(n, k, place, pattern, row);
-    print::field(n);
-    print::field(k);
-    print::number(place);
-    print::text(b" | ");
-    print::values(pattern);
-    print::text(b" | ");
-    print_found(found, row);
-    print::text(b"\n");
+    print::field(out, n)?;
+    print::field(out, k)?;
+    print::number(out, place)?;
+    print::text(out, b" | ")?;
+    print::values(out, pattern)?;
+    print::text(out, b" | ")?;
+    print_found(out, found, row)?;
+    print::text(out, b"\n")
 }
 
 // The same, with space for the permutation.
-fn print_search(k: u64, place: u64, pattern: &[u8]) {
+fn print_search<W: Write>(out: &mut W, k: u64, place: u64, pattern: &[u8]) -> io::Result<()> {
     let n = pattern.len();
     if 20 < n {
-        return;
+        return Ok(());
     }
     let mut row = [0u8; 20];
-    print_line(k, place, pattern, &mut row[..n]);
+    print_line(out, k, place, pattern, &mut row[..n])
 }
 
 // The lines of all searches of a text.
-fn print_all(text: &[u8]) {
+fn print_all<W: Write>(out: &mut W, text: &[u8]) -> io::Result<()> {
     let mut at = 0;
     while text.len() - at > 10 {
         let n = text[at] as usize;
         let from = at + 10;
         if n > text.len() - from {
-            return;
+            return Ok(());
         }
         let end = from + n;
         print_search(
+            out,
             text[at + 1] as u64,
             print::place_of(&text[at + 2..from]),
             &text[from..end],
-        );
+        )?;
         at = end;
     }
+    Ok(())
 }
 
-fn main() {
+fn main(rt: HostRuntime) -> io::Result<()> {
     let mut text = [0u8; 32768];
-    let size = io::read_full(STDIN_FILENO, &mut text);
-    print_all(&text[..size]);
+    let size = print::read_full(&mut rt.stdin(), &mut text);
+    let mut out = BufWriter::new(rt.alloc(), rt.stdout())?;
+    print_all(&mut out, &text[..size])?;
+    out.flush()
 }

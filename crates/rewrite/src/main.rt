@@ -1,13 +1,15 @@
 // Reads a filed sheet from standard input and writes it to standard output without leading zeros. What is read and written is `sheet::rewrite`'s, by its
 // contract.
-use libc::{STDIN_FILENO, STDOUT_FILENO};
+#![tactic(auto)]
+
+use std::io;
 
 // Reading ends at the input's end, or when one byte more than the longest text is there, or when a read fails: the bytes read so far are the text.
-// When a write fails the program stops writing.
-fn main() {
+// When a write fails the program stops writing, and says so by its exit status.
+fn main(rt: HostRuntime) -> io::Result<()> {
     let mut text = [0u8; sheet::MOST_READ];
-    let size = io::read_full(STDIN_FILENO, &mut text);
+    let size = print::read_full(&mut rt.stdin(), &mut text);
     let mut out = [0u8; sheet::REWRITTEN_CAPACITY];
     let length = sheet::rewrite(&text[..size], &mut out);
-    io::write_all(STDOUT_FILENO, &out[..length]);
+    rt.write_all(&out[..length])
 }
