@@ -7,7 +7,7 @@ ghost use Rattle.std.specs.Prelude.{◌≤◌, length};
 
 use cursor::{Answer, Cursor, Step};
 use std::io;
-use std::io::{BufWriter, Write};
+use std::io::Write;
 
 // A number with one more digit is read up to here, so that it fits.
 const LARGE: u64 = 1000000000000000000;
@@ -171,7 +171,7 @@ fn make_calls<W: Write>(out: &mut W, text: &[u8]) -> io::Result<()> {
 fn main(rt: HostRuntime) -> io::Result<()> {
     let mut text = [0u8; 16384];
     let size = print::read_full(&mut rt.stdin(), &mut text);
-    let mut out = BufWriter::new(rt.alloc(), rt.stdout())?;
+    let mut out = rt.stdout();
     make_calls(&mut out, &text[..size])?;
     out.flush()
 }

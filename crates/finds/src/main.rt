@@ -4,7 +4,7 @@
 
 use find::Found;
 use std::io;
-use std::io::{BufWriter, Write};
+use std::io::Write;
 
 // What was found: its place and the permutation, or the refusal.
 fn print_found<W: Write>(out: &mut W, found: Found, row: &[u8]) -> io::Result<()> {
@@ -72,7 +72,7 @@ fn print_all<W: Write>(out: &mut W, text: &[u8]) -> io::Result<()> {
 fn main(rt: HostRuntime) -> io::Result<()> {
     let mut text = [0u8; 32768];
     let size = print::read_full(&mut rt.stdin(), &mut text);
-    let mut out = BufWriter::new(rt.alloc(), rt.stdout())?;
+    let mut out = rt.stdout();
     print_all(&mut out, &text[..size])?;
     out.flush()
 }

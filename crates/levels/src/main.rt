@@ -4,10 +4,10 @@
 
 use explain::Level;
 use std::io;
-use std::io::{BufWriter, Write};
+use std::io::Write;
 
 // A row.
-fn print_level<W: Write>(out: &mut W, row: &Level) -> io::Result<()> {
+fn print_level<W: Write>(out: &mut W, row: Level) -> io::Result<()> {
     let letter = [row.letter];
     print::text(out, &letter)?;
     print::text(out, b" ")?;
@@ -21,18 +21,18 @@ fn print_level<W: Write>(out: &mut W, row: &Level) -> io::Result<()> {
 }
 
 // The first rows of an array.
-fn print_levels<W: Write>(out: &mut W, rows: &[Level; 20], count: usize) -> io::Result<()> {
+fn print_levels<W: Write>(out: &mut W, rows: [Level; 20], count: usize) -> io::Result<()> {
     if count == 0 {
         return Ok(());
     }
-    print_level(out, &rows[0])?;
+    print_level(out, rows[0])?;
     let mut i = 1;
     while i < 20 {
         if i >= count {
             return Ok(());
         }
         print::text(out, b"; ")?;
-        print_level(out, &rows[i])?;
+        print_level(out, rows[i])?;
         i += 1;
     }
     Ok(())
@@ -47,7 +47,7 @@ fn print_explained<W: Write>(out: &mut W, s: &[u8]) -> io::Result<()> {
     print::text(out, b" ")?;
     print::number(out, explained.answer.place)?;
     print::text(out, b" | ")?;
-    print_levels(out, &explained.rows, explained.count)?;
+    print_levels(out, explained.rows, explained.count)?;
     print::text(out, b"\n")
 }
 
@@ -70,7 +70,7 @@ fn print_all<W: Write>(out: &mut W, text: &[u8]) -> io::Result<()> {
 fn main(rt: HostRuntime) -> io::Result<()> {
     let mut text = [0u8; 8192];
     let size = print::read_full(&mut rt.stdin(), &mut text);
-    let mut out = BufWriter::new(rt.alloc(), rt.stdout())?;
+    let mut out = rt.stdout();
     print_all(&mut out, &text[..size])?;
     out.flush()
 }

@@ -5,7 +5,7 @@
 ghost use Rattle.std.specs.Prelude.{◌≤◌};
 
 use std::io;
-use std::io::{BufWriter, Write};
+use std::io::Write;
 
 // The line of the row at a place: `row` and `array` are n bytes to write it and its array to.
 fn print_row<W: Write>(
@@ -67,7 +67,7 @@ fn print_lists<W: Write>(out: &mut W, n: u64) -> io::Result<()>
 }
 
 fn main(rt: HostRuntime) -> io::Result<()> {
-    let mut out = BufWriter::new(rt.alloc(), rt.stdout())?;
+    let mut out = rt.stdout();
     let mut n = 0;
     while n < 7 {
         n += 1;

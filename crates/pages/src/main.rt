@@ -9,7 +9,7 @@ ghost use Rattle.std.specs.Prelude.{◌≤◌, ◌<◌};
 
 use cursor::{Answer, Cursor};
 use std::io;
-use std::io::{BufWriter, Read, Write};
+use std::io::{Read, Write};
 
 // The first n bytes, each after a space.
 fn print_first<W: Write>(out: &mut W, list: [u8; 20], n: u64) -> io::Result<()> {
@@ -205,7 +205,7 @@ fn read_samples<R: Read, W: Write>(input: &mut R, out: &mut W) -> io::Result<()>
 }
 
 fn main(rt: HostRuntime) -> io::Result<()> {
-    let mut out = BufWriter::new(rt.alloc(), rt.stdout())?;
+    let mut out = rt.stdout();
     pages_from(&mut out, 1, 1, 7)?;
     pages_from(&mut out, 2, 1, 5)?;
     pages_from(&mut out, 3, 6, 6)?;

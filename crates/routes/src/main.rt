@@ -3,7 +3,7 @@
 #![tactic(auto)]
 
 use std::io;
-use std::io::{BufWriter, Write};
+use std::io::Write;
 
 // The line of a permutation.
 fn print_line<W: Write>(out: &mut W, s: &[u8]) -> io::Result<()> {
@@ -38,7 +38,7 @@ fn print_all<W: Write>(out: &mut W, text: &[u8]) -> io::Result<()> {
 fn main(rt: HostRuntime) -> io::Result<()> {
     let mut text = [0u8; 4096];
     let size = print::read_full(&mut rt.stdin(), &mut text);
-    let mut out = BufWriter::new(rt.alloc(), rt.stdout())?;
+    let mut out = rt.stdout();
     print_all(&mut out, &text[..size])?;
     out.flush()
 }

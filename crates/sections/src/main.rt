@@ -8,7 +8,7 @@ ghost use Rattle.std.specs.Prelude.{◌≤◌};
 
 use cursor::{Cursor, Step};
 use std::io;
-use std::io::{BufWriter, Write};
+use std::io::Write;
 
 // 2^63 and 2^64 - 1.
 const HALF: u64 = 9223372036854775808;
@@ -226,7 +226,7 @@ fn try_sizes<W: Write>(out: &mut W, opening: bool, first: u64, last: u64) -> io:
 }
 
 fn main(rt: HostRuntime) -> io::Result<()> {
-    let mut out = BufWriter::new(rt.alloc(), rt.stdout())?;
+    let mut out = rt.stdout();
     try_sizes(&mut out, true, 0, 7)?;
     try_sizes(&mut out, true, 20, 21)?;
     try_sizes(&mut out, false, 0, 4)?;

@@ -6,7 +6,7 @@ ghost use Rattle.std.specs.Prelude.{◌≡◌};
 ghost use Rattle.inversion.specs.Table.{record_lows};
 
 use std::io;
-use std::io::{BufWriter, Write};
+use std::io::Write;
 
 // How many elements are below all before them.
 fn record_lows(q: &[u8]) -> usize
@@ -73,7 +73,7 @@ fn print_all<W: Write>(out: &mut W, text: &[u8]) -> io::Result<()> {
 fn main(rt: HostRuntime) -> io::Result<()> {
     let mut text = [0u8; 4096];
     let size = print::read_full(&mut rt.stdin(), &mut text);
-    let mut out = BufWriter::new(rt.alloc(), rt.stdout())?;
+    let mut out = rt.stdout();
     print_all(&mut out, &text[..size])?;
     out.flush()
 }

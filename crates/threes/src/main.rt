@@ -6,7 +6,7 @@ ghost use Rattle.std.specs.Prelude.{◌≤◌, IfOk};
 
 use cursor::Cursor;
 use std::io;
-use std::io::{BufWriter, Write};
+use std::io::Write;
 
 // The longest permutations that are walked through.
 const LONGEST: u64 = 8;
@@ -53,7 +53,7 @@ fn print_line<W: Write>(out: &mut W, n: u64) -> io::Result<()>
 }
 
 fn main(rt: HostRuntime) -> io::Result<()> {
-    let mut out = BufWriter::new(rt.alloc(), rt.stdout())?;
+    let mut out = rt.stdout();
     let mut n = 0;
     while n <= LONGEST {
         print_line(&mut out, n)?;

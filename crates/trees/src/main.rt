@@ -6,7 +6,7 @@
 #![tactic(auto)]
 
 use std::io;
-use std::io::{BufWriter, Read, Write};
+use std::io::{Read, Write};
 use tree::{Kind, Place};
 
 // A number, or the refusal that stands in its place.
@@ -147,7 +147,7 @@ fn print_list<R: Read, W: Write>(input: &mut R, out: &mut W, kind: Kind) -> io::
 }
 
 fn main(rt: HostRuntime) -> io::Result<()> {
-    let mut out = BufWriter::new(rt.alloc(), rt.stdout())?;
+    let mut out = rt.stdout();
     print_list(&mut rt.stdin(), &mut out, Kind::Involution)?;
     print_list(&mut rt.stdin(), &mut out, Kind::Bell)?;
     out.flush()
