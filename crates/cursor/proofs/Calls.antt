@@ -92,7 +92,7 @@ calls_run_lem m (call ∷ calls) inside =
     rw (called-observe m call inside, calls_run_lem (turn m call) calls (turn_in m call inside))
 
 -- the whole list, opened as a section, passes the checks just where the plain open does
-whole_checks : (n k : ℕ) → check_opening (Section n k 0 (c n k - 1)) ≡ check_cycles n k
+pub whole_checks : (n k : ℕ) → check_opening (Section n k 0 (c n k - 1)) ≡ check_cycles n k
 whole_checks n k = by-cycles (check_cycles n k) refl
   where
     by-cycles : (r : ℕ) → check_cycles n k ≡ r → check_opening (Section n k 0 (c n k - 1)) ≡ check_cycles n k

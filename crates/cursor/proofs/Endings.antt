@@ -1,12 +1,11 @@
 -- What `replay` ends with: the last step of a whole run is that of running the rest from here. Assumes nothing.
-use mathlib.Core.Path.{◌≡◌, refl, sym, ap, ◌∙◌}
+use mathlib.Core.Path.{◌≡◌, refl, ap, ◌∙◌}
 use mathlib.Core.List.{List, [], ◌∷◌}
-use Prim.Native.Nat.{ℕ, zero, suc, ◌+◌, ◌≤◌, ◌<◌}
+use Prim.Native.Nat.{ℕ, suc, ◌+◌, ◌≤◌, ◌<◌}
 use native.Mathlib.Nat.{add-zero}
 use native.Mathlib.Numerals.{add-one}
 use lib.ListN.{length, get_or, drop, drop_of_length-le}
 use lib.Seq.{drop-cons, get_or-drop, drop-drop}
-use Rattle.stirling.specs.Refusal.{unless}
 use Rattle.stirling.proofs.Refusals.{unless-refuses}
 use Rattle.cursor.specs.Machine.{Call}
 use Rattle.cursor.specs.Walk.{called, start_of, check_opening, opened, calls_run, decode, decoded, last_step, replayed}
@@ -38,22 +37,9 @@ pub replayed_refused : (opening : Opening) (calls : List Call) → (check_openin
 unfolding replayed
 replayed_refused opening calls d = unless-refuses (check_opening opening) _ (opened opening) d
 
--- a step that reports 0, or one that reports the refusal
-unless_refusal : (r : ℕ) (answer kept : Step) → answer.answer.refusal ≡ 0 → kept.answer.refusal ≡ r → (unless r answer kept).answer.refusal ≡ r
-unless_refusal zero answer kept e f = e
-unless_refusal (suc r) answer kept e f = f
-
--- the refusal that an open reports is that of its checks
-pub opened_refusal : (opening : Opening) → (opened opening).answer.refusal ≡ check_opening opening
-unfolding opened
-opened_refusal opening = unless_refusal (check_opening opening) _ _ refl refl
-
 -- the next of what is left of a list, and past its end 0
 get_or-next : (s : List ℕ) (t : ℕ) → get_or (drop t s) 0 0 ≡ get_or s t 0
 get_or-next s t = get_or-drop t s 0 0 ∙ ap (λ i. get_or s i 0) (add-zero t)
-
-pub get_d_past : (s : List ℕ) (t : ℕ) → length s ≤ t → get_or s t 0 ≡ 0
-get_d_past s t h = sym (get_or-next s t) ∙ ap (λ l. get_or l 0 0) (drop_of_length-le s h)
 
 -- the next call of a list, from its two numbers
 decoded-cons : (kind : ℕ) (kinds places : List ℕ) → decoded (kind ∷ kinds) places ≡ decode kind (get_or places 0 0) ∷ decoded kinds (drop 1 places)

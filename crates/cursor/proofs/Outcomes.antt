@@ -1,27 +1,24 @@
 -- What a call on a record gives, one law for each outcome: the record fails check 8, the call is refused, or it moves. Assumes nothing.
 use mathlib.Core.Path.{◌≡◌, refl, sym, ap, ◌∙◌}
-use mathlib.Core.Bool.{Bool, true, false, not}
+use mathlib.Core.Bool.{Bool, true, false, cond}
 use Prim.Native.Nat.{ℕ, zero, suc, ◌^◌, ◌<◌}
-use borrow.Author.Tests.{not-true, not-false}
+use Rattle.std.specs.Prelude.{Ok, Err}
+use Rattle.stirling.specs.Refusal.{number}
+use Rattle.stirling.specs.declared.Refusal.{Refusal}
+use Rattle.stirling.specs.declared.Refusal.TheVariants.{Record}
 use Rattle.stirling.specs.Count.{c, lookup_of}
 use Rattle.stirling.proofs.Counts.{cycles-passed, looked_up, fits}
+use Rattle.stirling.proofs.Refusals.{number_some}
 use Rattle.perm.specs.Permutation.{fixed}
 use Rattle.gray.specs.Listing.{Near}
 use Rattle.cursor.specs.Machine.{Machine, Call, forward, back, jump, show, Steps, onward, backward, observe, row_of, refusal_of, destination, moved, turn, bare, stepped, step_to, given, answered}
 use Rattle.cursor.specs.Walk.{machine_of, sound, called}
 use Rattle.cursor.specs.declared.Cursor.{Cursor}
 use Rattle.cursor.specs.declared.Answer.{Answer}
+use Rattle.cursor.proofs.Numbers.{gives_refusal}
 use Rattle.cursor.proofs.Calls.{in_on, step_in}
 use Rattle.cursor.proofs.Steps.{turn_near}
 use Rattle.cursor.proofs.Sound.{sound_in, sound_on, sound-shows}
-
--- what the test `!is_sound(w)` says: taken, the record fails check 8
-pub fails : {found right : Bool} → found ≡ right → not found ≡ true → right ≡ false
-fails {found} e t = sym e ∙ not-true found t
-
--- left, it passes
-pub passes : {found right : Bool} → found ≡ right → not found ≡ false → right ≡ true
-passes {found} e t = sym e ∙ not-false found t
 
 -- two tests that pass together and fail together are one
 pub agree : (found right : Bool) → (found ≡ true → right ≡ true) → (found ≡ false → right ≡ false) → found ≡ right
@@ -51,6 +48,16 @@ module _ (w : Cursor) (call : Call) where
   unfolding called turn answered
   called-refused zero e f d = absurd (d refl)
   called-refused (suc r) e f d = rw (e, f) (ap (λ (v : Cursor). record { cursor = v; answer = bare (suc r) }) (sym (sound-shows w e)))
+
+  -- and so where check 8 or what the call is refused for gives a refusal, the record comes back with its number
+  pub record_fails : (x : ℕ) (refusal : Refusal) → Err refusal ≡ cond (sound w) (Ok x) (Err Record) → record { cursor = w; answer = bare (number refusal) } ≡ called w call
+  record_fails x refusal e =
+      let (failed, which) = gives_refusal (sound w) x e in
+      rw which (sym (called-unsound failed))
+
+  pub call_fails : (refusal : Refusal) → sound w ≡ true → number refusal ≡ refusal_of (machine_of w) call
+      → record { cursor = w; answer = bare (number refusal) } ≡ called w call
+  call_fails refusal e f = sym (called-refused (number refusal) e (sym f) (number_some refusal))
 
   -- a call that is not refused moves the machine
   pub called-moves : sound w ≡ true → refusal_of (machine_of w) call ≡ 0

@@ -1,16 +1,21 @@
 -- Rows filled up with zeros to 20 bytes: what the calls of crates rank and perm write to the front of 20 zeros. Assumes nothing.
-use mathlib.Core.Path.{◌≡◌, ◌∙◌}
+use mathlib.Core.Path.{◌≡◌, refl, ◌∙◌}
 use mathlib.Core.List.{List, ◌++◌}
 use Prim.Native.Nat.{ℕ, ◌-◌, ◌≤◌}
 use native.Mathlib.Omega.{arith}
 use lib.ListN.{length, take, drop, replicate, length-append}
 use lib.Seq.{take_at, length-take-le}
 use borrow.Author.Tests.{eq-eqb}
+use mathlib.Core.Bool.{true}
+use Rattle.std.specs.Prelude.{Result, Ok, Err}
+use Rattle.std.specs.Result.{is_ok}
+use Rattle.stirling.specs.declared.Refusal.{Refusal}
 use Rattle.stirling.specs.Count.{check_size, check_place}
 use Rattle.stirling.proofs.Counts.{size-passed, place-passed}
+use Rattle.stirling.proofs.Refusals.{number_some}
 use Rattle.perm.specs.Permutation.{IsPermutation, fixed}
 use Rattle.perm.specs.Array.{array_of}
-use Rattle.perm.specs.Checks.{check_lent, ToArray}
+use Rattle.perm.specs.Checks.{check_lent, answer_of, ToArray}
 use Rattle.perm.specs.declared.Array.{Array}
 use Rattle.perm.proofs.Checked.{passes_values, passes_twice}
 use Rattle.perm.proofs.ArrayOf.{is_array_of}
@@ -75,12 +80,26 @@ row-padded {n} {k} {place} {r} {before} e z u =
     let zero : r ≡ 0 = rw (e, lent_passes before z) at u.refusal in
     rw (u.written zero) (front-padded (row_at (S n k) place) (row-placed n k place e).size (place-passed n k place e).0)
 
+-- no check refuses the permutation of n
+made : {n : ℕ} {r : Array} {s before after : List ℕ} → check_size n ≡ 0 → IsPermutation n s → length before ≡ n → ToArray s before r after → r.refusal ≡ 0
+made {n} {r} {s} {before} {after} e p z t =
+    let size : check_size (length s) ≡ 0 = rw p.size e in
+    rw (size, lent_passes {n = length s} before (omega (arith, p.size)), passes_values p, passes_twice p) at t.refusal
+
+-- an answer with no refusal gives the number
+given : (r : Result ℕ Refusal) → (answer_of r).refusal ≡ 0 → is_ok r ≡ true
+given (Ok fixed) e = refl
+given (Err refusal) e = absurd (number_some refusal e)
+
+-- so its array is made
+pub array_served : {n : ℕ} (r : Result ℕ Refusal) {s before after : List ℕ} → check_size n ≡ 0 → IsPermutation n s → length before ≡ n → ToArray s before (answer_of r) after
+    → is_ok r ≡ true
+array_served r e p z t = given r (made e p z t)
+
 -- the array that is written to the front, and what its making reports
 pub array_padded : {n : ℕ} {r : Array} {s before after : List ℕ} → check_size n ≡ 0 → IsPermutation n s → length before ≡ n → ToArray s before r after
     → (after ++ drop n (replicate 20 0) ≡ padded (array_of n s)) × (r.fixed ≡ fixed s)
 array_padded {n} {r} {s} {before} {after} e p z t =
-    let y = p.size in
-    let size : check_size (length s) ≡ 0 = rw y e in
-    let zero : r.refusal ≡ 0 = rw (size, lent_passes {n = length s} before (omega arith), passes_values p, passes_twice p) at t.refusal in
+    let zero = made e p z t in
     let a = t.written zero in
     (rw (← is_array_of a p) (front-padded after (a.array.size ∙ p.size) (size-passed n e)), rw zero at t.number)

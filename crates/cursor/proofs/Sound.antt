@@ -1,14 +1,19 @@
 -- Check 8 taken apart: a record passes it just if it is the one that shows the plain machine in its section. Assumes nothing.
-use mathlib.Core.Path.{◌≡◌, sym, ◌∙◌}
+use mathlib.Core.Path.{◌≡◌, refl, sym, ap, ◌∙◌}
 use mathlib.Core.Bool.{Bool, true, false, ◌&&◌}
-use borrow.Author.Tests.{eqb-true}
+use mathlib.Core.List.{List, [], ◌∷◌}
+use Prim.Native.Nat.{ℕ, ◌≤◌}
+use lib.Dec.{eqb}
+use lib.Pointwise.{pointwise}
+use borrow.Author.Tests.{eqb-true, eq-eqb}
 use Rattle.stirling.specs.Refusal.{within}
 use Rattle.stirling.specs.Count.{check_place}
 use Rattle.stirling.proofs.Refusals.{and-true, within-true}
 use Rattle.stirling.proofs.Counts.{cycles_passes, place-passed}
 use Rattle.perm.specs.Lists.{same}
+use Rattle.perm.specs.Array.{array_of}
 use Rattle.perm.proofs.Tally.{refuted}
-use Rattle.cursor.specs.Machine.{InSection, observe}
+use Rattle.cursor.specs.Machine.{InSection, padded, row_of, observe}
 use Rattle.perm.proofs.Same.{same_true}
 use Rattle.cursor.specs.Walk.{machine_of, sound}
 use Rattle.cursor.specs.declared.Cursor.{Cursor}
@@ -64,3 +69,31 @@ sound-shows w e =
     let passed = sym (sound_compares w (sound-range w e)) ∙ e in
     let (perm, array) = and-true (same w.perm shown.perm) (same w.array shown.array) passed in
     rw (← same_true w.perm shown.perm perm, ← same_true w.array shown.array array)
+
+-- two lists that the library finds equal are equal
+pointwise_same : (s t : List ℕ) → pointwise eqb s t ≡ same s t
+unfolding same
+pointwise_same [] [] = refl
+pointwise_same [] (y ∷ t) = refl
+pointwise_same (x ∷ s) [] = refl
+pointwise_same (x ∷ s) (y ∷ t) = ap (λ b. eqb x y && b) (pointwise_same s t)
+
+-- what the derived `==` finds of two records
+abbrev pub equals : Cursor → Cursor → Bool
+equals w v =
+    eqb w.n v.n
+    && (eqb w.k v.k
+    && (eqb w.place v.place
+    && (eqb w.lowest v.lowest && (eqb w.highest v.highest && (pointwise eqb w.perm v.perm && pointwise eqb w.array v.array)))))
+
+-- of a record and the one that shows its machine, it compares permutation and array
+pub equals_compared : (w : Cursor) → equals w (observe (machine_of w)) ≡ compared w
+unfolding observe
+equals_compared w =
+    rw
+    (eq-eqb w.n w.n refl, eq-eqb w.k w.k refl, eq-eqb w.place w.place refl, eq-eqb w.lowest w.lowest refl, eq-eqb w.highest w.highest refl)
+    (λ i. pointwise_same w.perm (padded (row_of (machine_of w))) i && pointwise_same w.array (padded (array_of w.n (row_of (machine_of w)))) i)
+
+-- a record that passes has at most 20 values
+pub sound_small : (w : Cursor) → sound w ≡ true → w.n ≤ 20
+sound_small w e = (place-passed w.n w.k w.highest (sound-range w e).listed).0

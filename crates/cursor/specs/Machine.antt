@@ -10,6 +10,8 @@ use Rattle.gray.specs.Listing.{row_at, Positions}
 use Rattle.cursor.specs.declared.Cursor.{Cursor}
 use Rattle.cursor.specs.declared.Answer.{Answer}
 use Rattle.cursor.specs.declared.Step.{Step}
+use Rattle.cursor.specs.declared.Direction.{Direction}
+use Rattle.cursor.specs.declared.Direction.TheVariants.{Forward, Back}
 
 pub record Machine : Type 0 where
   pub n : ℕ
@@ -33,6 +35,11 @@ pub data Call : Type 0 where
 pub data Steps : Call → Type 0 where
   onward : Steps forward
   backward : Steps back
+
+-- the call that steps in a direction
+abbrev pub step_call : Direction → Call
+step_call Forward = forward
+step_call Back = back
 
 -- filled up with zeros to 20 bytes
 abbrev pub padded : List ℕ → List ℕ

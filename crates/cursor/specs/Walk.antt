@@ -1,6 +1,7 @@
 -- Document 01's *walk* as a record that a caller hands in, sound or not: what each call gives for EVERY record. These are definitions; nothing is assumed.
-use Rattle.std.specs.Prelude.{◌≡◌, ℕ, zero, suc, ◌-◌, ◌≤◌, ◌<◌, Bool, not, cond, ◌&&◌, List, [], ◌∷◌, eqb, ltb, replicate, take}
-use Rattle.stirling.specs.Refusal.{refuse, ◌then◌, unless, within}
+use Rattle.std.specs.Prelude.{◌≡◌, ℕ, zero, suc, ◌-◌, ◌≤◌, ◌<◌, Bool, not, cond, ◌&&◌, List, [], ◌∷◌, eqb, ltb, replicate, take, Result, Ok, Err}
+use Rattle.stirling.specs.Refusal.{number, refuse, ◌then◌, unless, within}
+use Rattle.stirling.specs.declared.Refusal.{Refusal}
 use Rattle.stirling.specs.Count.{c, check_cycles, check_place}
 use Rattle.perm.specs.Lists.{same}
 use Rattle.gray.specs.Order.{Row}
@@ -29,6 +30,11 @@ check_record w = refuse (not (sound w)) 8
 -- a call on a record: what the plain machine at its place shows after it; a record that fails check 8 comes back as it was
 unfoldable pub called : Cursor → Call → Step
 called w call = unless (check_record w) (turned (machine_of w) call) (record { cursor = w; answer = bare 8 })
+
+-- what a call hands back: its step, or a record as it was and the refusal's number
+abbrev pub handed_back : Cursor → Result Step Refusal → Step
+handed_back w (Ok step) = step
+handed_back w (Err refusal) = record { cursor = w; answer = bare (number refusal) }
 
 -- a section of S(n,k) begins at its lowest place
 abbrev pub section : ℕ → ℕ → ℕ → ℕ → Machine

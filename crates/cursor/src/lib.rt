@@ -1,30 +1,20 @@
 // A cursor that walks through S(n,k), or through a section of it: a record handed over by value and handed back.
 #![tactic(auto)]
 
-ghost use Rattle.std.specs.Prelude.{◌≡◌, true, cond, ◌≤◌, ◌<◌, length, get_or, take};
-ghost use Rattle.stirling.specs.Refusal.{within};
+ghost use Rattle.std.specs.Prelude.{◌≡◌, true, cond, ◌≤◌, ◌<◌, not, nat_eq, length, take, position, count_by};
+ghost use Rattle.std.specs.List.{zip};
+ghost use Rattle.stirling.specs.Refusal.{within, number, refusal_in};
 ghost use Rattle.stirling.specs.Count.{c, check_size, check_place};
-ghost use Rattle.perm.specs.Lists.{same};
-ghost use Rattle.perm.specs.Permutation.{IsPermutation, fixed, distance};
-ghost use Rattle.perm.specs.Array.{position, array_of, entries_changed};
+ghost use Rattle.perm.specs.Permutation.{IsPermutation, fixed};
+ghost use Rattle.perm.specs.Array.{array_of, entries_changed};
 ghost use Rattle.gray.specs.Order.{S};
 ghost use Rattle.gray.specs.Listing.{row_at, Near};
-ghost use Rattle.cursor.specs.Machine.{padded, observe, row_of, whole, stops, place_after, place_before, refusal_of, moved, first_from, bare, stepped, step_to, forward, back, jump, show};
-ghost use Rattle.cursor.specs.Walk.{machine_of, sound, called, section, check_opening, zeros, opened, decode, decoded, replayed};
+ghost use Rattle.cursor.specs.Machine.{padded, observe, row_of, whole, stops, refusal_of, destination, moved, first_from, bare, stepped, step_to, step_call, forward, back, jump, show};
+ghost use Rattle.cursor.specs.Walk.{machine_of, sound, called, check_opening, handed_back, zeros, opened, decode, decoded, replayed};
 
-// Check 8: a record that is not one that the calls hand back.
-pub const REFUSED_RECORD: u8 = 8;
+use stirling::Refusal;
 
-// Forward at the highest place of a section, and on a list of one permutation; every other whole list is closed.
-pub const REFUSED_LAST: u8 = 9;
-
-// Back at the lowest place of a section, and on a list of one permutation.
-pub const REFUSED_FIRST: u8 = 10;
-
-// A jump out of the section, and an opening with its lowest place above its highest.
-pub const REFUSED_SECTION: u8 = 13;
-
-// The calls of a list that is replayed; any other number is a show.
+// The calls of a list that is replayed; any other number is a show. Numbers, and their places in a slice beside them, since the contract of `replay` says so (`decoded`).
 pub const FORWARD: u8 = 1;
 
 pub const BACK: u8 = 2;
@@ -32,8 +22,8 @@ pub const BACK: u8 = 2;
 pub const JUMP: u8 = 3;
 
 // Document 01's *walk*: n, k, the place, the lowest and the highest place of the section that it keeps to, and the permutation and the transposition array that stand at
-// the place, zero after the n-th byte.
-#[derive(Clone, Copy)]
+// the place, zero after the n-th byte: 20 bytes each, as the definition `observe` has them, for a record has no heap.
+#[derive(Clone, Copy, Default, PartialEq, Eq)]
 pub struct Cursor {
     pub n: u64,
     pub k: u64,
@@ -44,9 +34,9 @@ pub struct Cursor {
     pub array: [u8; 20],
 }
 
-// What a call answers beside the cursor: the refusal, the three positions of a step, how many entries of the array it changed, and what show hands out, with the
-// permutation's number of fixed points; zeros where a call reports none.
-#[derive(Drop)]
+// What a call answers beside the cursor: the refusal's number or 0 for none, as the definitions `bare` and `called` have it, the three positions of a step, how many
+// entries of the array it changed, and what show hands out, with the permutation's number of fixed points; zeros where a call reports none.
+#[derive(Default, Drop)]
 pub struct Answer {
     pub refusal: u8,
     pub i: u64,
@@ -95,34 +85,11 @@ struct Counted {
     fixed: u64,
 }
 
-// Whether a record passes check 8, and if it does the number of fixed points of its permutation, otherwise 0.
-#[derive(Drop)]
-struct Checked {
-    sound: bool,
-    fixed: u64,
-}
-
-// A record that fails check 8.
-const UNSOUND: Checked = Checked {
-    sound: false,
-    fixed: 0,
-};
-
-// An answer with a refusal, or 0 for none, and zeros for the rest.
-fn bare_answer(refusal: u8) -> Answer
-    ensures { result ≡ bare refusal }
-{
-    Answer {
-        refusal,
-        i: 0,
-        j: 0,
-        l: 0,
-        changed: 0,
-        place: 0,
-        perm: [0u8; 20],
-        array: [0u8; 20],
-        fixed: 0,
-    }
+// The two ways of a step.
+#[derive(Clone, Copy)]
+enum Direction {
+    Forward,
+    Back,
 }
 
 // The permutation at a place of S(n,k), filled up with zeros.
@@ -131,211 +98,156 @@ fn row_at(n: u64, k: u64, place: u64) -> [u8; 20]
     ensures { result ≡ padded (row_at (S n k) place) }
 {
     let size = n as usize;
+    // twenty bytes, as `padded` has them, since there is no heap
     let mut row = [0u8; 20];
-    rank::unrank(n, k, place, &mut row[..size]);
+    // never refused: the place passes the checks, and n bytes are lent
+    rank::unrank(n, k, place, &mut row[..size]).unwrap();
     row
 }
 
-// The array of the permutation of n in the first bytes, filled up with zeros, and the number of fixed points that its making reports.
-fn entries_of(n: u64, row: [u8; 20]) -> Entries
-    requires { (check_size n ≡ 0) × IsPermutation n (take n row) }
-    ensures { result ≡ record { array = padded (array_of n (take n row)); fixed = fixed (take n row) } }
+// The array of a permutation, filled up with zeros, and the number of fixed points that its making reports.
+// Crate rank has its own, which counts the cycles and refuses: one for both would be one more public function of crate perm, that gives its 20 bytes by value.
+fn entries_of(row: &[u8]) -> Entries
+    requires { (check_size (length row.now) ≡ 0) × IsPermutation (length row.now) row.now }
+    ensures { result ≡ record { array = padded (array_of (length row.now) row.now); fixed = fixed row.now } }
 {
-    let size = n as usize;
     let mut array = [0u8; 20];
-    let made = perm::to_array(&row[..size], &mut array[..size]);
-    Entries {
-        array,
-        fixed: made.fixed,
-    }
+    // never refused: the slice holds a permutation, and as many bytes are lent
+    let fixed = perm::to_array(row, &mut array[..row.len()]).unwrap();
+    Entries { array, fixed }
 }
 
-// The record that shows the plain machine at a place of S(n,k), in a section of it, and the number of fixed points of the permutation there.
-fn counted_at(n: u64, k: u64, place: u64, lowest: u64, highest: u64) -> Counted
-    requires { check_place n k place ≡ 0 }
-    ensures { result ≡ record { cursor = observe (moved (section n k lowest highest) place); fixed = fixed (row_at (S n k) place) } }
+// A record at another place of its list, as the plain machine shows it there, and the number of fixed points of the permutation at that place.
+fn counted_at(w: Cursor, place: u64) -> Counted
+    requires { check_place w.n w.k place ≡ 0 }
+    ensures { result ≡ record { cursor = observe (moved (machine_of w) place); fixed = fixed (row_at (S w.n w.k) place) } }
 {
-    let perm = row_at(n, k, place);
-    let entries = entries_of(n, perm);
-    let array = entries.array;
-    Counted {
-        cursor: Cursor {
-            n,
-            k,
-            place,
-            lowest,
-            highest,
-            perm,
-            array,
-        },
-        fixed: entries.fixed,
-    }
+    let size = w.n as usize;
+    let perm = row_at(w.n, w.k, place);
+    let Entries { array, fixed } = entries_of(&perm[..size]);
+    let cursor = Cursor {
+        place,
+        perm,
+        array,
+        ..w
+    };
+    Counted { cursor, fixed }
 }
 
 // The record alone.
-fn cursor_at(n: u64, k: u64, place: u64, lowest: u64, highest: u64) -> Cursor
-    requires { check_place n k place ≡ 0 }
-    ensures { result ≡ observe (moved (section n k lowest highest) place) }
+fn cursor_at(w: Cursor, place: u64) -> Cursor
+    requires { check_place w.n w.k place ≡ 0 }
+    ensures { result ≡ observe (moved (machine_of w) place) }
 {
-    counted_at(n, k, place, lowest, highest).cursor
+    counted_at(w, place).cursor
 }
 
-// Whether two arrays have the same bytes.
-fn equal(a: [u8; 20], b: [u8; 20]) -> bool
-    ensures { result ≡ same a b }
+// Whether a place is one of a record's section.
+fn is_within(w: Cursor, place: u64) -> bool
+    ensures { result ≡ within w.lowest w.highest place }
 {
-    let mut i = 0;
-    while i < 20 {
-        if a[i] != b[i] {
-            return false;
-        }
-        i += 1;
-    }
-    true
-}
-
-// Whether a place is from the lowest to the highest of a section.
-fn is_within(lowest: u64, highest: u64, place: u64) -> bool
-    ensures { result ≡ within lowest highest place }
-{
-    lowest <= place && place <= highest
+    (w.lowest..=w.highest).contains(&place)
 }
 
 // Check 8: the section is one of the list, and the place is in it; permutation and array are recomputed there, and all their bytes compared. The fixed points were
-// counted on the way.
-fn check_record(w: Cursor) -> Checked
-    ensures { result ≡ record { sound = sound w; fixed = cond (sound w) (fixed (row_of (machine_of w))) 0 } }
+// counted on the way: a record that passes gives their number. That a record is `sound`, and a place one of its list, are facts beside them in the contracts here: the
+// record is the caller's and its fields are public, and a struct around it would be made and taken apart at each call.
+fn check_record(w: Cursor) -> Result<u64, Refusal>
+    ensures { result ≡ cond (sound w) (Ok (fixed (row_of (machine_of w)))) (Err Refusal.Record) }
 {
-    if stirling::check_place(w.n, w.k, w.highest) != 0 {
-        return UNSOUND;
+    if stirling::check_place(w.n, w.k, w.highest).is_err() {
+        return Err(Refusal::Record);
     }
-    if !is_within(w.lowest, w.highest, w.place) {
-        return UNSOUND;
+    if !is_within(w, w.place) {
+        return Err(Refusal::Record);
     }
-    let counted = counted_at(w.n, w.k, w.place, w.lowest, w.highest);
-    let right = counted.cursor;
-    let perm = w.perm;
-    let right_perm = right.perm;
-    if !equal(perm, right_perm) {
-        return UNSOUND;
+    let right = counted_at(w, w.place);
+    if w != right.cursor {
+        return Err(Refusal::Record);
     }
-    let array = w.array;
-    let right_array = right.array;
-    if !equal(array, right_array) {
-        return UNSOUND;
-    }
-    Checked {
-        sound: true,
-        fixed: counted.fixed,
-    }
+    Ok(right.fixed)
 }
 
-// Whether a record passes check 8.
-fn is_sound(w: Cursor) -> bool
-    ensures { result ≡ sound w }
+// The index at which two rows first differ.
+fn first_difference(old: &[u8], new: &[u8]) -> Option<usize>
+    ensures { result ≡ position (λ p. not (nat_eq p.0 p.1)) (zip old.now new.now) }
 {
-    check_record(w).sound
+    old.iter().zip(new).position(|(x, y)| x != y)
 }
 
-// The first position at which two rows of one length differ, or one past them.
-fn first_difference(old: &[u8], new: &[u8]) -> usize
-    requires { length old.now ≡ length new.now }
-    ensures { result ≡ first_from 1 old.now new.now }
+// The first index at which a row has a value.
+fn index_of(v: u8, row: &[u8]) -> Option<usize>
+    ensures { result ≡ position (λ x. nat_eq x v) row.now }
 {
-    let mut i = 0;
-    while i < old.len() {
-        if old[i] != new[i] {
-            return i + 1;
-        }
-        i += 1;
-    }
-    i + 1
+    row.iter().position(|x| *x == v)
 }
 
-// The first position that has a value, or the length.
-fn position_of(v: u8, row: &[u8]) -> usize
-    ensures { result ≡ position v row.now }
-{
-    let mut i = 0;
-    while i < row.len() {
-        if row[i] == v {
-            return i + 1;
-        }
-        i += 1;
-    }
-    i
-}
-
-// In how many bytes two slices of one length differ.
+// In how many bytes two slices differ.
 fn differences(s: &[u8], t: &[u8]) -> u64
-    requires { length s.now ≡ length t.now }
-    ensures { result ≡ distance s.now t.now }
+    ensures { result ≡ count_by (λ p. not (nat_eq p.0 p.1)) (zip s.now t.now) }
 {
-    let mut count = 0;
-    let mut i = 0;
-    while i < s.len() {
-        if s[i] != t[i] {
-            count += 1;
-        }
-        i += 1;
-    }
-    count
+    s.iter().zip(t).filter(|(x, y)| x != y).count() as u64
 }
 
-// The three positions of a step between neighbouring rows, with the number of entries in which their arrays differ.
+// The three positions of a step between neighbouring rows, with the number of entries in which their arrays differ: the rows differ, and each value of the new row stands
+// in the old one.
 fn step_between(old: &[u8], new: &[u8], changed: u64) -> Answer
     requires { IsPermutation (length old.now) old.now × Near (length old.now) old.now new.now × (changed ≡ entries_changed (length old.now) old.now new.now) }
     ensures { result ≡ stepped (length old.now) old.now new.now }
 {
-    let i = first_difference(old, new);
-    let j = position_of(new[i - 1], old);
-    let l = position_of(new[j - 1], old);
+    let i = first_difference(old, new).unwrap();
+    let j = index_of(new[i], old).unwrap();
+    let l = index_of(new[j], old).unwrap();
     Answer {
-        refusal: 0,
-        i: i as u64,
-        j: j as u64,
-        l: l as u64,
+        i: i as u64 + 1,
+        j: j as u64 + 1,
+        l: l as u64 + 1,
         changed,
-        place: 0,
-        perm: [0u8; 20],
-        array: [0u8; 20],
-        fixed: 0,
+        ..Answer::default()
     }
 }
 
-// A refused call: the record as it was, and the refusal.
-fn refused(w: Cursor, refusal: u8) -> Step
-    ensures { result ≡ record { cursor = w; answer = bare refusal } }
+// What a call hands back: its step, or a record as it was and the refusal.
+fn handed_back(w: Cursor, given: Result<Step, Refusal>) -> Step
+    ensures { result ≡ handed_back w given }
 {
-    let answer = bare_answer(refusal);
-    Step { cursor: w, answer }
+    match given {
+        Ok(step) => step,
+        Err(refusal) => Step {
+            cursor: w,
+            // the number, since the plain machine answers numbers (`bare`)
+            answer: Answer {
+                refusal: refusal.number(),
+                ..Answer::default()
+            },
+        },
+    }
 }
 
 // A step to a neighbouring place.
+#[tactic(auto, using(crate::proofs::Sound::sound_small))]
 fn step_to(w: Cursor, place: u64) -> Step
     requires { (sound w ≡ true) × (place < c w.n w.k) × Near w.n (row_of (machine_of w)) (row_of (moved (machine_of w) place)) }
     ensures { result ≡ step_to (machine_of w) place }
 {
     let size = w.n as usize;
-    let cursor = cursor_at(w.n, w.k, place, w.lowest, w.highest);
-    let before = w.array;
-    let after = cursor.array;
-    let changed = differences(&before[..size], &after[..size]);
-    let old = w.perm;
-    let new = cursor.perm;
-    let answer = step_between(&old[..size], &new[..size], changed);
+    let cursor = cursor_at(w, place);
+    let changed = differences(&w.array[..size], &cursor.array[..size]);
+    let answer = step_between(&w.perm[..size], &cursor.perm[..size], changed);
     Step { cursor, answer }
 }
 
-// The place after one of a section, or the one before it: past the highest it is the lowest, and before the lowest the highest.
-fn place_beside(lowest: u64, highest: u64, place: u64, onward: bool) -> u64
-    requires { (lowest ≤ place) × (place ≤ highest) }
-    ensures { result ≡ cond onward (place_after lowest highest place) (place_before lowest highest place) }
+// The place beside a record's in its section: past the highest it is the lowest, and before the lowest the highest.
+fn place_beside(w: Cursor, direction: Direction) -> u64
+    requires { (w.lowest ≤ w.place) × (w.place ≤ w.highest) }
+    ensures { result ≡ destination (machine_of w) (step_call direction) }
 {
-    if onward {
-        return if place == highest { lowest } else { place + 1 };
+    match direction {
+        Direction::Forward if w.place == w.highest => w.lowest,
+        Direction::Forward => w.place + 1,
+        Direction::Back if w.place == w.lowest => w.highest,
+        Direction::Back => w.place - 1,
     }
-    if place == lowest { highest } else { place - 1 }
 }
 
 // Whether a record's section is the whole list.
@@ -358,72 +270,112 @@ fn stops_at(w: Cursor, end: u64) -> bool
     w.place == end
 }
 
-// What refuses the step forward from a record's place, or the step back.
-fn check_step(w: Cursor, onward: bool) -> u8
+// What refuses a step from a record's place.
+fn check_step(w: Cursor, direction: Direction) -> Result<(), Refusal>
     requires { sound w ≡ true }
-    ensures { result ≡ refusal_of (machine_of w) (cond onward forward back) }
+    ensures { refusal_in result ≡ refusal_of (machine_of w) (step_call direction) }
 {
-    if onward {
-        return if stops_at(w, w.highest) {
-            REFUSED_LAST
-        } else {
-            0
-        };
-    }
-    if stops_at(w, w.lowest) {
-        REFUSED_FIRST
-    } else {
-        0
+    match direction {
+        Direction::Forward if stops_at(w, w.highest) => Err(Refusal::Last),
+        Direction::Back if stops_at(w, w.lowest) => Err(Refusal::First),
+        _ => Ok(()),
     }
 }
 
-// Forward, or back: a step within the section, and round the list if that is the section.
-fn section_step(w: Cursor, onward: bool) -> Step
-    ensures { result ≡ called w (cond onward forward back) }
+// A step within the section, and round the list if that is the section.
+fn try_step(w: Cursor, direction: Direction) -> Result<Step, Refusal>
+    ensures { handed_back w result ≡ called w (step_call direction) }
 {
-    if !is_sound(w) {
-        return refused(w, REFUSED_RECORD);
+    check_record(w)?;
+    check_step(w, direction)?;
+    Ok(step_to(w, place_beside(w, direction)))
+}
+
+// A jump to a place.
+fn try_jump(w: Cursor, place: u64) -> Result<Step, Refusal>
+    ensures { handed_back w result ≡ called w (jump place) }
+{
+    check_record(w)?;
+    stirling::check_place(w.n, w.k, place)?;
+    if !is_within(w, place) {
+        return Err(Refusal::Section);
     }
-    let refusal = check_step(w, onward);
-    if refusal != 0 {
-        return refused(w, refusal);
-    }
-    step_to(w, place_beside(w.lowest, w.highest, w.place, onward))
+    let cursor = cursor_at(w, place);
+    let answer = Answer::default();
+    Ok(Step { cursor, answer })
+}
+
+// A show of what the record holds.
+fn try_show(w: Cursor) -> Result<Step, Refusal>
+    ensures { handed_back w result ≡ called w show }
+{
+    let fixed = check_record(w)?;
+    // variables, since the check covers no field that is an array straight in a literal
+    let perm = w.perm;
+    let array = w.array;
+    let answer = Answer {
+        place: w.place,
+        perm,
+        array,
+        fixed,
+        ..Answer::default()
+    };
+    Ok(Step { cursor: w, answer })
 }
 
 // The checks of a section's opening: 1, 2, then 3 for either end, then 13.
-fn check_section(n: u64, k: u64, lowest: u64, highest: u64) -> u8
-    ensures { result ≡ check_opening (Opening.Section n k lowest highest) }
+fn check_section(n: u64, k: u64, lowest: u64, highest: u64) -> Result<(), Refusal>
+    ensures { refusal_in result ≡ check_opening (Opening.Section n k lowest highest) }
 {
-    let refusal = stirling::check_place(n, k, lowest);
-    if refusal != 0 {
-        return refusal;
-    }
-    let refusal = stirling::check_place(n, k, highest);
-    if refusal != 0 {
-        return refusal;
-    }
+    stirling::check_place(n, k, lowest)?;
+    stirling::check_place(n, k, highest)?;
     if lowest > highest {
-        return REFUSED_SECTION;
+        return Err(Refusal::Section);
     }
-    0
+    Ok(())
 }
 
-// A refused open: a walk of zeros, and the refusal.
-fn not_opened(refusal: u8) -> Step
-    ensures { result ≡ record { cursor = zeros; answer = bare refusal } }
+// The opening of a section, at its lowest place.
+fn try_section(n: u64, k: u64, lowest: u64, highest: u64) -> Result<Step, Refusal>
+    ensures step { handed_back zeros result ≡ opened (Opening.Section n k lowest highest) }
+    ensures refusal { refusal_in result ≡ check_opening (Opening.Section n k lowest highest) }
 {
-    Step {
-        cursor: Cursor {
-            n: 0,
-            k: 0,
-            place: 0,
-            lowest: 0,
-            highest: 0,
-            perm: [0u8; 20],
-            array: [0u8; 20],
-        },
-        answer: bare_answer(refusal),
+    check_section(n, k, lowest, highest)?;
+    let section = Cursor {
+        n,
+        k,
+        lowest,
+        highest,
+        ..Cursor::default()
+    };
+    Ok(Step {
+        cursor: cursor_at(section, lowest),
+        answer: Answer::default(),
+    })
+}
+
+// The opening of the whole list, as a section of it.
+fn try_whole(n: u64, k: u64) -> Result<Step, Refusal>
+    ensures step { handed_back zeros result ≡ opened (Opening.Whole n k) }
+    ensures refusal { refusal_in result ≡ check_opening (Opening.Whole n k) }
+{
+    stirling::check_cycles(n, k)?;
+    try_section(n, k, 0, stirling::lookup(n, k) - 1)
+}
+
+// Either opening.
+fn try_opening(opening: Opening) -> Result<Step, Refusal>
+    ensures step { handed_back zeros result ≡ opened opening }
+    ensures refusal { refusal_in result ≡ check_opening opening }
+{
+    match opening {
+        Opening::Whole { n, k } => try_whole(n, k),
+        Opening::Section {
+            n,
+            k,
+            lowest,
+            highest,
+        } => try_section(n, k, lowest, highest),
     }
 }
 
@@ -433,11 +385,7 @@ impl Cursor {
     pub fn open(n: u64, k: u64) -> Step
         ensures { result ≡ opened (Opening.Whole n k) }
     {
-        let refusal = stirling::check_cycles(n, k);
-        if refusal != 0 {
-            return not_opened(refusal);
-        }
-        Cursor::open_section(n, k, 0, stirling::lookup(n, k) - 1)
+        handed_back(Cursor::default(), try_whole(n, k))
     }
 
     // A walk from the lowest place of a section of S(n,k), both ends included, that keeps to the section. Refusals 1, 2, 3 and 13; a refused open hands back a walk of
@@ -445,73 +393,37 @@ impl Cursor {
     pub fn open_section(n: u64, k: u64, lowest: u64, highest: u64) -> Step
         ensures { result ≡ opened (Opening.Section n k lowest highest) }
     {
-        let refusal = check_section(n, k, lowest, highest);
-        if refusal != 0 {
-            return not_opened(refusal);
-        }
-        Step {
-            cursor: cursor_at(n, k, lowest, lowest, highest),
-            answer: bare_answer(0),
-        }
+        handed_back(Cursor::default(), try_section(n, k, lowest, highest))
     }
 
-    // To the next place, on the whole list from the last to place 0, with the three positions of the step and the number of entries changed. Refusals 8 and 9.
+    // To the next place, on the whole list from the last to place 0, with the three positions of the step and the number of entries changed. Refusals 8 and 9: 9 at the
+    // highest place of a section, and on a list of one permutation; every other whole list is closed.
     pub fn forward(self) -> Step
         ensures { result ≡ called self forward }
     {
-        section_step(self, true)
+        handed_back(self, try_step(self, Direction::Forward))
     }
 
-    // To the place before, on the whole list from place 0 to the last, with the three positions of the step and the number of entries changed. Refusals 8 and 10.
+    // To the place before, on the whole list from place 0 to the last, with the three positions of the step and the number of entries changed. Refusals 8 and 10: 10 at
+    // the lowest place of a section, and on a list of one permutation.
     pub fn back(self) -> Step
         ensures { result ≡ called self back }
     {
-        section_step(self, false)
+        handed_back(self, try_step(self, Direction::Back))
     }
 
-    // To any place of the section. Refusals 8, 3 and 13.
+    // To any place of the section. Refusals 8, 3 and 13: 13 out of the section.
     pub fn jump(self, place: u64) -> Step
         ensures { result ≡ called self (jump place) }
     {
-        if !is_sound(self) {
-            return refused(self, REFUSED_RECORD);
-        }
-        if place >= stirling::lookup(self.n, self.k) {
-            return refused(self, stirling::REFUSED_PLACE);
-        }
-        if !is_within(self.lowest, self.highest, place) {
-            return refused(self, REFUSED_SECTION);
-        }
-        let cursor = cursor_at(self.n, self.k, place, self.lowest, self.highest);
-        let answer = bare_answer(0);
-        Step { cursor, answer }
+        handed_back(self, try_jump(self, place))
     }
 
     // The place, the permutation and the array, and the number of fixed points. Refusal 8.
     pub fn show(self) -> Step
         ensures { result ≡ called self show }
     {
-        let checked = check_record(self);
-        if !checked.sound {
-            return refused(self, REFUSED_RECORD);
-        }
-        let perm = self.perm;
-        let array = self.array;
-        let answer = Answer {
-            refusal: 0,
-            i: 0,
-            j: 0,
-            l: 0,
-            changed: 0,
-            place: self.place,
-            perm,
-            array,
-            fixed: checked.fixed,
-        };
-        Step {
-            cursor: self,
-            answer,
-        }
+        handed_back(self, try_show(self))
     }
 }
 
@@ -519,37 +431,11 @@ impl Cursor {
 fn make_call(w: Cursor, kind: u8, place: u64) -> Step
     ensures { result ≡ called w (decode kind place) }
 {
-    if kind == FORWARD {
-        return w.forward();
-    }
-    if kind == BACK {
-        return w.back();
-    }
-    if kind == JUMP {
-        return w.jump(place);
-    }
-    w.show()
-}
-
-// The place that goes with a call, or 0.
-fn place_of(places: &[u64], t: usize) -> u64
-    ensures { result ≡ get_or places.now t 0 }
-{
-    if t < places.len() { places[t] } else { 0 }
-}
-
-// Either open.
-fn make_opening(opening: Opening) -> Step
-    ensures { result ≡ opened opening }
-{
-    match opening {
-        Opening::Whole { n, k } => Cursor::open(n, k),
-        Opening::Section {
-            n,
-            k,
-            lowest,
-            highest,
-        } => Cursor::open_section(n, k, lowest, highest),
+    match kind {
+        FORWARD => w.forward(),
+        BACK => w.back(),
+        JUMP => w.jump(place),
+        _ => w.show(),
     }
 }
 
@@ -557,14 +443,13 @@ fn make_opening(opening: Opening) -> Step
 pub fn replay(opening: Opening, kinds: &[u8], places: &[u64]) -> Step
     ensures { result ≡ replayed opening (decoded kinds.now places.now) }
 {
-    let mut step = make_opening(opening);
-    if step.answer.refusal != 0 {
-        return step;
-    }
-    let mut t = 0;
-    while t < kinds.len() {
-        step = make_call(step.cursor, kinds[t], place_of(places, t));
-        t += 1;
+    let mut step = match try_opening(opening) {
+        Ok(step) => step,
+        Err(refusal) => return handed_back(Cursor::default(), Err(refusal)),
+    };
+    for (t, kind) in kinds.iter().enumerate() {
+        let place = places.get(t).copied().unwrap_or(0);
+        step = make_call(step.cursor, *kind, place);
     }
     step
 }

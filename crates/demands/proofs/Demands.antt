@@ -113,13 +113,12 @@ use Rattle.cursor.proofs.Sections as Sections
 use Rattle.cursor.proofs.Cases as Walks
 use Rattle.sheet.specs.declared.Grammar.{Grammar}
 use Rattle.sheet.specs.declared.Grammar.TheVariants.{Current, Filed}
-use Rattle.sheet.specs.declared.Asked.TheVariants.{Rows, Unreadable}
-use Rattle.sheet.specs.Asked.{asked_in, asked, asked_filed}
+use Rattle.sheet.specs.Asked.{Rows, Unreadable, asked_in, asked, asked_filed}
 use Rattle.sheet.specs.Sheet.{refused_line, answer_to, answer}
 use Rattle.sheet.specs.Rewriting.{rewritten_to, rewritten}
 use Rattle.sheet.specs.Form.{IsSheet, Plain}
 use Rattle.sheet.proofs.Outcome.{eleven_only, not-filed}
-use Rattle.sheet.proofs.Reader.{rows_read_lem, reads, only}
+use Rattle.sheet.proofs.Reader.{rows_read_lem, numbers, reads, only}
 use Rattle.sheet.proofs.Rewriting as Rewriting
 use Rattle.sheet.proofs.Answers as SheetCases
 
@@ -641,9 +640,7 @@ rewritten-answer = Rewriting.answers_alike
 -- two old sheets give equal bytes exactly when their four numbers are equal
 pub equal_bytes : (text other : List ℕ) (n k place m n' k' place' m' : ℕ) → asked_filed text ≡ Rows n k place m → asked_filed other ≡ Rows n' k' place' m'
     → rewritten text ≡ rewritten other → (n ≡ n') × (k ≡ k') × (place ≡ place') × (m ≡ m')
-equal_bytes text other n k place m n' k' place' m' e f bytes =
-    let asks : Rows n k place m ≡ Rows n' k' place' m' = sym e ∙ Rewriting.equal_bytes text other bytes ∙ f in
-    (cc, cc, cc, cc)
+equal_bytes text other n k place m n' k' place' m' e f bytes = numbers (sym e ∙ Rewriting.equal_bytes text other bytes ∙ f)
 
 pub equal_numbers : (text other : List ℕ) (n k place m : ℕ) → asked_filed text ≡ Rows n k place m → asked_filed other ≡ Rows n k place m → rewritten text ≡ rewritten other
 equal_numbers text other n k place m e f = ap rewritten_to (e ∙ sym f)

@@ -1,19 +1,17 @@
--- The checks on two permutations: what passes them, and how the refusals of the two make one. Assumes nothing.
-use mathlib.Core.Path.{◌≡◌, refl, ◌∙◌}
+-- The checks on two permutations: what passes them. Assumes nothing.
+use mathlib.Core.Path.{◌≡◌, ◌∙◌}
 use Prim.Native.Nat.{ℕ, ◌*◌, ◌≤◌}
-use mathlib.Core.Bool.{Bool, true, false, cond}
 use mathlib.Core.List.{List}
-use lib.Dec.{eqb, ltb}
+use lib.Dec.{ltb}
 use lib.ListN.{length}
 use borrow.Author.Tests.{ltb-false}
-use Rattle.stirling.specs.Refusal.{refuse, ◌then◌}
+use Rattle.stirling.specs.Refusal.{◌then◌}
 use Rattle.stirling.specs.Count.{check_size}
-use Rattle.stirling.proofs.Counts.{size_passes}
 use Rattle.stirling.proofs.Refusals.{then_passed, then_passes, refuse-passed}
 use Rattle.perm.specs.Permutation.{IsPermutation}
-use Rattle.perm.specs.Checks.{check_lent, check_values, check_twice, check_permutation}
+use Rattle.perm.specs.Checks.{check_lent, check_values, check_twice}
 use Rattle.perm.proofs.Refused as Refused
-use Rattle.perm.proofs.Checked.{checked, some_outside, some_twice}
+use Rattle.perm.proofs.Checked.{checked}
 use Rattle.exchanges.specs.Between.{pairs_between, check_lengths, check_contents, check_room, check_between}
 
 -- two permutations of one n
@@ -46,19 +44,3 @@ between_passed s t size e =
     let q = then_passed (check_lengths (length s) (length t)) (check_contents s t) p.0 in
     let room = refuse-passed (ltb size (2 * length (pairs_between s t))) 4 p.1 in
     (both_passed s t q.0 q.1, ltb-false size (2 * length (pairs_between s t)) room)
-
--- all of 6 before any of 7
-in_order : (a b c d : Bool) → cond (eqb (refuse b 6 then refuse d 7) 6) 6 ((refuse a 6 then refuse c 7) then (refuse b 6 then refuse d 7))
-    ≡ refuse a 6 then refuse b 6 then refuse c 7 then refuse d 7
-in_order true true c d = refl
-in_order false true c d = refl
-in_order true false c true = refl
-in_order true false c false = refl
-in_order false false c true = refl
-in_order false false c false = refl
-
--- the refusals of the two make that of both
-pub either : (s t : List ℕ) (first second : ℕ) → length s ≤ 20 → length t ≤ 20 → first ≡ check_permutation s → second ≡ check_permutation t
-    → cond (eqb second 6) 6 (first then second) ≡ check_contents s t
-either s t first second h k f g =
-    rw (f, g, size_passes (length s) h, size_passes (length t) k) (in_order (some_outside s) (some_outside t) (some_twice s) (some_twice t))

@@ -1,12 +1,14 @@
 -- The pairs of an array one after another: what the loops that count and write them keep. Assumes nothing.
 use mathlib.Core.Path.{◌≡◌, refl, sym, ap, ap₂, ◌∙◌}
 use Prim.Native.Nat.{ℕ, zero, suc, ◌+◌, ◌-◌, ◌≤◌, ◌<◌}
-use native.Mathlib.Numerals.{add-one}
-use native.Mathlib.Nat.{add-zero, add-suc, le_refl}
+use native.Mathlib.Numerals.{add-one, one-add}
+use native.Mathlib.Nat.{add-zero, zero-add, add-suc, suc-add, le_refl}
 use native.Mathlib.Omega.{arith}
-use mathlib.Core.Bool.{not}
+use mathlib.Core.Bool.{Bool, not}
 use mathlib.Core.List.{List, [], ◌∷◌, ◌++◌, append-nil}
 use lib.Dec.{eqb}
+use Rattle.std.specs.List.{filter, count_by, enumerate_from}
+use Rattle.std.proofs.lemmas.List.Sums.{length-filter}
 use lib.ListN.{length, get_or, length-append}
 use borrow.Table.Steps.{cases}
 use borrow.Author.Tests.{eqb-true, eqb-false, eq-eqb, ne_eqb}
@@ -15,7 +17,7 @@ use Rattle.perm.specs.Permutation.{at}
 use Rattle.perm.proofs.Tally.{tally-positions, tally-not, length-range}
 use Rattle.perm.proofs.Values.{at_suc}
 use Rattle.perm.specs.Pairs.{Pair}
-use Rattle.exchanges.specs.Pairs.{pair_at, pairs_to}
+use Rattle.exchanges.specs.Pairs.{pair_at, pairs_to, pairs_of}
 
 -- what holds of no pair where an entry is fixed, and of its pair where it is not, holds of what the entry gives
 pub by_entry : (P : List Pair → Type 0) (p : List ℕ) (i : ℕ) → (at p i ≡ i → P []) → ((at p i ≡ i → ⊥) → P ((at p i, i) ∷ [])) → P (pair_at p i)
@@ -68,3 +70,21 @@ pub pairs_room : (p : List ℕ) (i n : ℕ) → i < n → (get_or p i 0 ≡ i + 
 pairs_room p i n h d =
     let e : i + 1 + (n - (i + 1)) ≡ n = omega arith in
     omega (arith, length_moved p i d, pairs_more p (i + 1) (n - (i + 1)), ap (λ (m : ℕ). length (pairs_to p m)) e)
+
+-- elements with their indices, from index k on: those that pass a test are as many as pass it at the positions that follow
+passing_indexed : (p : ℕ × ℕ → Bool) (q : ℕ → Bool) (k : ℕ) (xs : List ℕ) → ((i : ℕ) → i < length xs → p (k + i, get_or xs i 0) ≡ q (suc (k + i)))
+    → length (filter p (enumerate_from k xs)) ≡ tally q (range (suc k) (length xs))
+unfolding tally range
+passing_indexed p q k [] e = refl
+passing_indexed p q k (x ∷ xs) e =
+    let rest : length (filter p (enumerate_from (k + 1) xs)) ≡ tally q (range (suc (suc k)) (length xs)) =
+    rw add-one (passing_indexed p q (suc k) xs (λ i h. rw suc-add (rw add-suc at (e (suc i) (omega arith))))) in
+    let here : p (k, x) ≡ q (suc k) = rw add-zero at (e 0 (omega arith)) in
+    cases (q (suc k)) (λ t. rw (here, t, rest, one-add) refl) (λ f. rw (here, f, rest, zero-add) refl)
+
+-- so the entries that are not one more than their index are as many as the pairs
+pub count_unfixed : (p : List ℕ) → count_by (λ x. not (eqb x.1 (x.0 + 1))) (enumerate_from 0 p) ≡ length (pairs_of p)
+count_unfixed p =
+    sym (length-filter (λ x. not (eqb x.1 (x.0 + 1))) (enumerate_from 0 p))
+    ∙ passing_indexed _ (λ i. not (eqb (at p i) i)) 0 p (λ i h. rw (zero-add, add-one, at_suc) refl)
+    ∙ sym (length_pairs p (length p))

@@ -1,11 +1,13 @@
 -- Document 02, c): the exchanges from one permutation to another, for every input. These are definitions; nothing is assumed.
-use Rattle.std.specs.Prelude.{◌≡◌, ℕ, ◌*◌, List, ltb, length}
-use Rattle.stirling.specs.Refusal.{refuse, ◌then◌}
+use Rattle.std.specs.Prelude.{◌≡◌, ℕ, ◌*◌, List, ltb, length, Result, Ok, Err}
+use Rattle.stirling.specs.Refusal.{refuse, ◌then◌, number}
+use Rattle.stirling.specs.declared.Refusal.{Refusal}
 use Rattle.stirling.specs.Count.{check_size}
 use Rattle.perm.specs.Array.{array_of}
 use Rattle.perm.specs.Checks.{check_lent, check_values, check_twice}
 use Rattle.perm.specs.Pairs.{Pair, front}
 use Rattle.exchanges.specs.declared.Exchanges.{Exchanges}
+use Rattle.exchanges.specs.declared.Written.{Written}
 use Rattle.exchanges.specs.Carrying.{carrying}
 use Rattle.exchanges.specs.Pairs.{pairs_of}
 
@@ -28,6 +30,11 @@ check_room s t size = refuse (ltb size (2 * length (pairs_between s t))) 5
 -- the checks in their order: 1, 5 for unequal lengths, 6, 7, and last 5 for the buffer
 abbrev pub check_between : List ℕ → List ℕ → ℕ → ℕ
 check_between s t size = check_lengths (length s) (length t) then check_contents s t then check_room s t size
+
+-- a call's numbers as C has them: no refusal and the two, or the refusal's number and zeros
+abbrev pub answer_of : Result Written Refusal → Exchanges
+answer_of (Ok pairs) = record { refusal = 0; count = pairs.count; written = pairs.written }
+answer_of (Err refusal) = record { refusal = number refusal; count = 0; written = 0 }
 
 -- the pairs from s to t in the front of a buffer that held `before` and then holds `after`, with the answer r: their number, and twice it as the number of bytes
 -- written; the bytes after them stay. Or a refusal with zeros, and every byte stays

@@ -5,10 +5,11 @@ use native.Mathlib.Numerals.{add-one}
 use native.Mathlib.Omega.{arith}
 use mathlib.Core.List.{List, [], ◌∷◌, ◌++◌, append_assoc}
 use lib.ListN.{length, get_or, take, set, replicate}
-use lib.Seq.{length-take-le, take-suc, take-take, set_at}
+use lib.Seq.{length-take-le, take-suc, take-length, set_at}
 use Rattle.rank.specs.declared.Step.{Step}
 use Rattle.rank.specs.Descent.{still}
 use Rattle.explain.specs.declared.Level.{Level}
+use Rattle.explain.specs.declared.Summed.{Summed}
 use Rattle.explain.specs.Levels.{level, lettered, total}
 use Rattle.explain.specs.Explain.{blank}
 
@@ -58,7 +59,7 @@ pub none_yet : (n : ℕ) (path : List Step) → Upto n path (replicate 20 blank)
 unfolding total
 none_yet n path = record { inside = omega arith; front = rw (lettered_none n); sum = rw (lettered_none n) }
 
-module _ {n : ℕ} {path : List Step} {rows : List Level} {place i : ℕ} (u : Upto n path rows place i) (h : i < n) (few : n ≤ 20) (all : length path ≡ 20) where
+module _ {n : ℕ} {path : List Step} {rows : List Level} {place i : ℕ} (u : Upto n path rows place i) (h : i < n) (few : n ≤ 20) (all : length path ≡ n) where
   abbrev new : Level
   new = level (n - i) (get_or path i still)
 
@@ -87,11 +88,14 @@ module _ {n : ℕ} {path : List Step} {rows : List Level} {place i : ℕ} (u : U
       })
 
   -- the sum stays within that of all
-  pub within : place + new.before ≤ total (lettered n (take n path))
-  within =
-      omega (
-        arith,
-        one_more.sum,
-        total-take n (i + 1) (take n path),
-        ap (λ (l : List Step). total (lettered n l)) (take-take (i + 1) n path (omega arith)),
-      )
+  pub within : place + new.before ≤ total (lettered n path)
+  within = omega (arith, one_more.sum, total-take n (i + 1) path)
+
+-- at last all
+pub all_up : {n : ℕ} {path : List Step} {rows : List Level} {place i : ℕ} → Upto n path rows place i → i ≡ n → length path ≡ n
+    → ◌≡◌ {A = Summed} (record { place = place; rows = rows }) (record { place = total (lettered n path); rows = lettered n path ++ replicate (20 - n) blank })
+all_up {n} {path} {rows} {place} {i} u e all =
+    let whole : take i path ≡ path = ap (λ (j : ℕ). take j path) (e ∙ sym all) ∙ take-length path in
+    let place_is = u.sum ∙ ap (λ (l : List Step). total (lettered n l)) whole in
+    let rows_are = u.front ∙ ap (λ (l : List Step). lettered n l ++ replicate (20 - i) blank) whole ∙ ap (λ (j : ℕ). lettered n path ++ replicate (20 - j) blank) e in
+    λ t. record { place = place_is t; rows = rows_are t }

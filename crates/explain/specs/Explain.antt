@@ -1,6 +1,7 @@
 -- Document 02, b): the call that explains a permutation's place, for every input. These are definitions; nothing is assumed.
-use Rattle.std.specs.Prelude.{◌≡◌, ℕ, ◌-◌, false, List, [], ◌++◌, ltb, length, drop, replicate}
-use Rattle.stirling.specs.Refusal.{refuse, ◌then◌, unless}
+use Rattle.std.specs.Prelude.{◌≡◌, ℕ, ◌-◌, false, List, [], ◌++◌, ltb, length, drop, replicate, Result, Ok, Err, IfOk}
+use Rattle.stirling.specs.Refusal.{refuse, ◌then◌, unless, number}
+use Rattle.stirling.specs.declared.Refusal.{Refusal}
 use Rattle.perm.specs.Cycle.{cycles}
 use Rattle.perm.specs.Checks.{check_permutation}
 use Rattle.rank.specs.Place.{StandsAt}
@@ -23,6 +24,11 @@ pub record Answers (s : List ℕ) (lent : ℕ) (r : Explanation) : Type 0 where
   pub standing : r.refusal ≡ 0 → StandsAt s r.k r.place
   pub zeros : (r.refusal ≡ 0 → ⊥) → (r.k ≡ 0) × (r.place ≡ 0)
 
+-- a call's answer as C has it: no refusal, and the number of cycles and the place; or the refusal's number, and zeros
+abbrev pub answer_of : Result Explained Refusal → Explanation
+answer_of (Ok e) = record { refusal = 0; k = e.k; place = e.place }
+answer_of (Err refusal) = record { refusal = number refusal; k = 0; place = 0 }
+
 -- the rows that are written: those of the permutation, and none on a refusal
 abbrev pub rows_written : List ℕ → ℕ → List Level
 rows_written s lent = unless (check_explain s lent) (rows_of s) []
@@ -31,11 +37,15 @@ rows_written s lent = unless (check_explain s lent) (rows_of s) []
 abbrev pub blank : Level
 blank = record { letter = 0; backward = false; block = 0; before = 0 }
 
--- the same by value: the answer, and the rows to be written in front of rows of zeros
-pub record IsExplained (s : List ℕ) (lent : ℕ) (e : Explained) : Type 0 where
-  pub answer : Answers s lent e.answer
+-- the same by value: the rows to be written, in front of rows of zeros
+pub record HasRows (s : List ℕ) (lent : ℕ) (e : Explained) : Type 0 where
   pub count : e.count ≡ length (rows_written s lent)
   pub rows : e.rows ≡ rows_written s lent ++ replicate (20 - e.count) blank
+
+-- and the answer, with those rows where nothing is refused
+pub record IsExplained (s : List ℕ) (lent : ℕ) (r : Result Explained Refusal) : Type 0 where
+  pub answer : Answers s lent (answer_of r)
+  pub rows : IfOk r (HasRows s lent)
 
 -- the call, on lent rows that held `before` and then hold `after`, with the answer r: the rows beyond the n-th stay, and on a refusal all
 pub record Explains (s : List ℕ) (before : List Level) (r : Explanation) (after : List Level) : Type 0 where

@@ -3,16 +3,12 @@
 // `osierdrum` writes the rows to the caller's.
 #![tactic(auto)]
 
-ghost use Rattle.std.specs.Prelude.{◌≡◌, ◌-◌, ◌≤◌, ◌<◌, ◌^◌, ◌++◌, ltb, length, take, replicate};
-ghost use Rattle.stirling.specs.Refusal.{refuse, ◌then◌};
-ghost use Rattle.explain.specs.Levels.{letter_byte, level, lettered, total};
-ghost use Rattle.explain.specs.Explain.{blank, IsExplained};
+ghost use Rattle.std.specs.Prelude.{◌≡◌, ◌-◌, ◌≤◌, ◌<◌, ◌^◌, ◌++◌, length, replicate};
+ghost use Rattle.explain.specs.Levels.{level, lettered, total};
+ghost use Rattle.explain.specs.Explain.{answer_of, blank, IsExplained};
 
-use gray::Letter;
 use rank::Step;
-
-// The refusal of check 12.
-pub const REFUSED_LEVELS: u8 = 12;
+use stirling::Refusal;
 
 // A row: the letter of the relation that gives the list at this size, as its own byte b'a' to b'e', since no struct that holds an enum can be exported; whether the
 // list is read backward; the number of the block, from 0 in written order; and how many rows of the list stand before the block in that reading.
@@ -25,7 +21,7 @@ pub struct Level {
     pub before: u64,
 }
 
-// A permutation's number of cycles and its place, or a refusal with zeros.
+// What a call answers, as C has it: a permutation's number of cycles and its place, or a refusal's number with zeros.
 #[repr(C)]
 #[derive(Drop)]
 pub struct Explanation {
@@ -34,10 +30,31 @@ pub struct Explanation {
     pub place: u64,
 }
 
-// The answer, and the rows, of which the first `count` are to be written; rows of zeros stand after them.
+impl From<Result<Explained, Refusal>> for Explanation {
+    ghost from_gives = { λ given answer. answer ≡ answer_of given };
+
+    fn from(given: Result<Explained, Refusal>) -> Explanation {
+        match given {
+            Ok(explained) => Explanation {
+                refusal: 0,
+                k: explained.k,
+                place: explained.place,
+            },
+            Err(refusal) => Explanation {
+                refusal: refusal.number(),
+                k: 0,
+                place: 0,
+            },
+        }
+    }
+}
+
+// A permutation's number of cycles and its place, and the rows, of which the first `count` are to be written; rows of zeros stand after them, since memory is fixed.
+// `count` stands beside them as the clause IsExplained names it.
 #[derive(Drop)]
 pub struct Explained {
-    pub answer: Explanation,
+    pub k: u64,
+    pub place: u64,
     pub count: usize,
     pub rows: [Level; 20],
 }
@@ -57,104 +74,51 @@ struct Summed {
     rows: [Level; 20],
 }
 
-// The letter of a relation, as its own byte.
-fn letter_byte(letter: Letter) -> u8
-    ensures { result ≡ letter_byte letter }
-{
-    match letter {
-        Letter::Nothing => 0,
-        Letter::A => b'a',
-        Letter::B => b'b',
-        Letter::C => b'c',
-        Letter::D => b'd',
-        Letter::E => b'e',
-    }
-}
-
 // The row of a step in the list of size n.
 fn level_of(n: u64, step: Step) -> Level
     ensures { result ≡ level n step }
 {
     Level {
-        letter: letter_byte(gray::letter_of(n, step.cycles)),
+        letter: gray::letter_of(n, step.cycles) as u8,
         backward: step.backward,
         block: step.block,
         before: step.before,
     }
 }
 
-// The rows of the first n steps, and their sum.
-fn sum_up(n: usize, steps: [Step; 20]) -> Summed
-    requires { (n ≤ 20) × (length steps ≡ 20) × (total (lettered n (take n steps)) < 2 ^ 64) }
+// The rows of the steps for sizes n, n−1, … , where n is their number, and their sum.
+fn sum_up(steps: &[Step]) -> Summed
+    requires { (length steps.now ≤ 20) × (total (lettered (length steps.now) steps.now) < 2 ^ 64) }
     ensures { result ≡ record {
-      place = total (lettered n (take n steps));
-      rows = lettered n (take n steps) ++ replicate (20 - n) blank;
+      place = total (lettered (length steps.now) steps.now);
+      rows = lettered (length steps.now) steps.now ++ replicate (20 - length steps.now) blank;
     } }
 {
     let mut rows = [BLANK; 20];
     let mut place = 0;
-    let mut i = 0;
-    while i < n {
-        let row = level_of((n - i) as u64, steps[i]);
+    for (i, step) in steps.iter().enumerate() {
+        let row = level_of((steps.len() - i) as u64, *step);
         rows[i] = row;
         place += row.before;
-        i += 1;
     }
     Summed { place, rows }
 }
 
-// The refusal of a permutation of n that was read, and then check 12: at least n rows are lent.
-fn check_levels(read: u8, n: usize, lent: usize) -> u8
-    ensures { result ≡ read then refuse (ltb lent n) 12 }
-{
-    if read != 0 {
-        return read;
-    }
-    if lent < n {
-        return REFUSED_LEVELS;
-    }
-    0
-}
-
-// A refusal, with nothing to write.
-fn unexplained(refusal: u8) -> Explained
-    ensures { result ≡ record {
-      answer = record { refusal = refusal; k = 0; place = 0 };
-      count = 0;
-      rows = replicate 20 blank;
-    } }
-{
-    Explained {
-        answer: Explanation {
-            refusal,
-            k: 0,
-            place: 0,
-        },
-        count: 0,
-        rows: [BLANK; 20],
-    }
-}
-
 // A permutation's place and the rows that explain it, where `lent` rows are there to write to. Refusals 1, 6, 7 as the permutation is read, then 12.
-pub fn explain(s: &[u8], lent: usize) -> Explained
+pub fn explain(s: &[u8], lent: usize) -> Result<Explained, Refusal>
     ensures { IsExplained s.now lent result }
 {
-    let descent = rank::descend(s);
+    let descent = rank::descend(s)?;
     let n = s.len();
-    let refusal = check_levels(descent.refusal, n, lent);
-    if refusal != 0 {
-        return unexplained(refusal);
+    if lent < n {
+        return Err(Refusal::Levels);
     }
-    let steps = descent.steps;
-    let sum = sum_up(n, steps);
+    let sum = sum_up(&descent.steps[..n]);
     let rows = sum.rows;
-    Explained {
-        answer: Explanation {
-            refusal,
-            k: descent.k,
-            place: sum.place,
-        },
+    Ok(Explained {
+        k: descent.k,
+        place: sum.place,
         count: n,
         rows,
-    }
+    })
 }

@@ -2,44 +2,40 @@
 use mathlib.Core.Path.{◌≡◌, refl, sym, ap, ◌∙◌}
 use Prim.Native.Nat.{ℕ, ◌≤◌, ◌<◌}
 use native.Mathlib.Omega.{arith}
-use mathlib.Core.Bool.{Bool, true, false, not, ◌||◌, true≢false}
+use mathlib.Core.Bool.{Bool, false, not}
 use mathlib.Core.List.{List, []}
 use lib.Dec.{eqb}
 use lib.ListN.{length}
-use borrow.Author.Tests.{eqb-true, eq-eqb, ne_eqb, ltb-false, not-false}
+use borrow.Author.Tests.{eqb-true, eq-eqb, ltb-false, not-false}
+use Rattle.std.proofs.Common.{Some, None}
 use Rattle.stirling.specs.Refusal.{◌then◌, unless}
-use Rattle.stirling.specs.Count.{c, check_place}
-use Rattle.stirling.proofs.Refusals.{refuse-passed, then_passes, then_stops, then_passed, unless-refuses}
-use Rattle.stirling.proofs.Counts.{place_passes, place-passed}
+use Rattle.stirling.specs.Count.{c, IsTable, check_place_in, check_place}
+use Rattle.stirling.proofs.Refusals.{refuse-passed, then_passes, then_passed}
+use Rattle.stirling.proofs.Counts.{place_passes, place-passed, place-by-table}
 use Rattle.perm.specs.Lists.{tally, some}
 use Rattle.perm.proofs.Tally.{none_passes}
 use Rattle.gray.specs.Order.{Row, S}
 use Rattle.gray.specs.Listing.{row_at}
 use Rattle.gray.proofs.Once.{length-S}
 use Rattle.rank.specs.Place.{Unranked}
-use Rattle.rank.proofs.RowChecks.{neither, either}
+use Rattle.rank.proofs.RowChecks.{neither}
 use Rattle.find.specs.declared.Found.{Found}
 use Rattle.find.specs.Meeting.{meets, least_from}
-use Rattle.find.specs.Find.{check_lengths, check_pattern, check_asked, check_met, check_find, find_of, written_by}
-use Rattle.find.proofs.Least.{First, least_first, first-least, first_some, first-none}
+use Rattle.find.specs.Find.{check_lengths, check_pattern, check_asked, check_met, check_find, find_of}
+use Rattle.find.specs.Search.{place_found}
+use Rattle.find.proofs.Least.{First, least_first, first-least, first_some, first-none, none_found, found_first, missing_first}
 
 -- the checks of what is asked, one after another
 module _ (n k place : ℕ) (w : List ℕ) (size : ℕ) where
-  pub asked-place : {r : ℕ} → r ≡ check_place n k place → (r ≡ 0 → ⊥) → r ≡ check_asked n k place w size
-  asked-place {r} e d =
-      then_stops (check_place n k place then check_lengths n (length w) size) (check_pattern n w) r (then_stops (check_place n k place) (check_lengths n (length w) size) r e d) d
-
-  lengths-refused : check_place n k place ≡ 0 → (not (eqb (length w) n) || not (eqb size n)) ≡ true → 5 ≡ check_asked n k place w size
-  lengths-refused e t = rw (e, t)
-
-  pub asked-pattern-length : check_place n k place ≡ 0 → (length w ≡ n → ⊥) → 5 ≡ check_asked n k place w size
-  asked-pattern-length e d = lengths-refused e (either (not (eqb (length w) n)) (not (eqb size n)) (λ f. absurd (true≢false (sym (ap not (ne_eqb (length w) n d)) ∙ f))))
-
-  pub asked-lent : check_place n k place ≡ 0 → (size ≡ n → ⊥) → 5 ≡ check_asked n k place w size
-  asked-lent e d = lengths-refused e (either (not (eqb (length w) n)) (not (eqb size n)) (λ _. ap not (ne_eqb size n d)))
-
   pub asked-values : {r : ℕ} → check_place n k place ≡ 0 → length w ≡ n → size ≡ n → r ≡ check_pattern n w → r ≡ check_asked n k place w size
   asked-values e z s q = rw (e, eq-eqb (length w) n z, eq-eqb size n s) q
+
+  -- where each passes, all do
+  pub asked : {counts : List ℕ} → IsTable counts → 0 ≡ check_place_in counts n k place → 0 ≡ check_lengths n (length w) size then check_pattern n w → check_asked n k place w size ≡ 0
+  asked {counts} t e f =
+      let place_passes' : check_place n k place ≡ 0 = sym (place-by-table t n k place) ∙ sym e in
+      let (lengths, values) = then_passed (check_lengths n (length w) size) (check_pattern n w) (sym f) in
+      rw (place_passes', lengths) values
 
   -- where all of them pass
   pub asked-passed : check_asked n k place w size ≡ 0 → (n ≤ 20) × (place < c n k) × (length w ≡ n) × (size ≡ n)
@@ -51,15 +47,16 @@ module _ (n k place : ℕ) (w : List ℕ) (size : ℕ) where
       (small, below, eqb-true (length w) n (not-false _ x), eqb-true size n (not-false _ y))
 
 -- where no row of the list meets the wishes, none from a place on does
-pub none_least : (p : Row → Bool) (n k place : ℕ) → place < c n k → some p (S n k) ≡ false → c n k ≡ least_from p (S n k) place
+pub none_least : (p : Row → Bool) (n k place : ℕ) → place < c n k → some p (S n k) ≡ false → None ≡ place_found p (S n k) place
 none_least p n k place h f =
-    first-least p (S n k) place
+    none_found p (S n k) place
     (record {
       from = omega arith;
       most = rw (length-S n k) (omega arith);
       none = λ i l u. none_passes p [] (S n k) (omega (arith, ltb-false 0 (tally p (S n k)) f)) i (rw (length-S n k) u);
       passes = λ u. absurd (omega (arith, length-S n k));
     })
+    (omega (arith, length-S n k))
 
 -- what the call gives
 module _ (n k place : ℕ) (w : List ℕ) (size : ℕ) where
@@ -68,11 +65,6 @@ module _ (n k place : ℕ) (w : List ℕ) (size : ℕ) where
 
   answers : (r : ℕ) (x : ℕ) → r ≡ check_find n k place w size → x ≡ unless r least 0 → ◌≡◌ {A = Found} (record { refusal = r; place = x }) (find_of n k place w size)
   answers r x e f = rw (f, e)
-
-  -- a refusal of what is asked
-  pub find-refused : {r : ℕ} → r ≡ check_asked n k place w size → (r ≡ 0 → ⊥) → ◌≡◌ {A = Found} (record { refusal = r; place = 0 }) (find_of n k place w size)
-  find-refused {r} e d =
-      answers r 0 (then_stops (check_asked n k place w size) (check_met n k place w) r e d) (sym (unless-refuses r least 0 d))
 
   module _ (e : check_asked n k place w size ≡ 0) where
     -- the least place, or the number of rows
@@ -94,12 +86,32 @@ module _ (n k place : ℕ) (w : List ℕ) (size : ℕ) where
         let some-met = first_some (meets w) (S n k) place first-place (omega (arith, below_all d, length-S n k)) in
         answers 0 least (sym (then_passes _ (check_met n k place w) e ∙ rw some-met)) refl
 
--- and its row
+-- its row is not refused
+pub row_passes : {n k place r : ℕ} {before after : List ℕ} → n ≤ 20 → place < c n k → length before ≡ n → Unranked n k place before r after
+    → r ≡ 0
+row_passes {n} {k} {place} {r} {before} small below z u =
+    u.refusal ∙ rw (place_passes n k place small below, eq-eqb (length before) n z)
+
+-- so it is written
 pub row_written : {n k place r : ℕ} {before after : List ℕ} → n ≤ 20 → place < c n k → length before ≡ n → Unranked n k place before r after
     → after ≡ row_at (S n k) place
-row_written {n} {k} {place} {r} {before} small below z u =
-    u.written (u.refusal ∙ rw (place_passes n k place small below, eq-eqb (length before) n z))
+row_written small below z u =
+    u.written (row_passes small below z u)
 
--- on a refusal the slice is as it was
-pub kept_by : (n k : ℕ) {found : Found} {r : ℕ} (before : List ℕ) → found ≡ record { refusal = r; place = 0 } → (r ≡ 0 → ⊥) → before ≡ written_by n k found before
-kept_by n k {found} {r} before e d = rw e (sym (unless-refuses r (row_at (S n k) 0) before d))
+-- the place that was looked for, or none
+module _ (n k place : ℕ) (w : List ℕ) (size : ℕ) (e : check_asked n k place w size ≡ 0) where
+  within_all : place ≤ length (S n k)
+  within_all = let (_, l, _, _) = asked-passed n k place w size e in omega (arith, length-S n k)
+
+  pub answers-unmet : None ≡ place_found (meets w) (S n k) place → ◌≡◌ {A = Found} (record { refusal = 14; place = 0 }) (find_of n k place w size)
+  answers-unmet q =
+      find-unmet n k place w size e (sym (first-least (meets w) (S n k) place (missing_first (meets w) (S n k) place within_all q)) ∙ length-S n k)
+
+  pub place_below : {r : ℕ} → Some r ≡ place_found (meets w) (S n k) place → r < c n k
+  place_below q = omega (arith, (found_first (meets w) (S n k) place within_all q).1, length-S n k)
+
+  pub answers-met : {r : ℕ} → Some r ≡ place_found (meets w) (S n k) place → ◌≡◌ {A = Found} (record { refusal = 0; place = r }) (find_of n k place w size)
+  answers-met {r} q =
+      let (f, l) = found_first (meets w) (S n k) place within_all q in
+      let is : r ≡ least_from (meets w) (S n k) place = first-least (meets w) (S n k) place f in
+      ap (λ (x : ℕ). record { refusal = 0; place = x }) is ∙ find-met n k place w size e (λ z. omega (arith, length-S n k))

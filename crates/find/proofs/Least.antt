@@ -4,15 +4,18 @@ use Prim.Native.Nat.{ℕ, zero, suc, ◌+◌, ◌-◌, ◌≤◌, ◌<◌}
 use native.Mathlib.Omega.{arith}
 use mathlib.Core.Bool.{Bool, true, false, true≢false, cond}
 use mathlib.Core.List.{List, [], ◌∷◌}
+use lib.Dec.{ltb}
 use lib.ListN.{length, drop, length-drop}
 use lib.Seq.{get_or-drop}
 use borrow.Table.Steps.{cases}
-use borrow.Author.Tests.{lt-ltb, le-ltb}
+use borrow.Author.Tests.{lt-ltb, le-ltb, ltb-true, ltb-false}
+use Rattle.std.proofs.Common.{Some, None}
 use Rattle.perm.specs.Lists.{tally, some}
 use Rattle.perm.proofs.Tally.{tally-none, one_passes}
 use Rattle.gray.specs.Order.{Row}
 use Rattle.gray.specs.Listing.{row_at}
 use Rattle.find.specs.Meeting.{until, least_from}
+use Rattle.find.specs.Search.{place_found}
 
 -- the rows before it do not pass
 until_most : (p : Row → Bool) (L : List Row) → until p L ≤ length L
@@ -85,3 +88,33 @@ module _ (p : Row → Bool) (L : List Row) (a : ℕ) where
   first-none f h =
       le-ltb 0 (tally p (drop a L))
       (omega (arith, tally-none p [] (drop a L) (λ i l. ap p (get_or-drop a L i []) ∙ f.none (a + i) (omega arith) (omega (arith, length-drop a L)))))
+
+  -- as an option: the place, or none where no row from a on passes
+  pub some_found : {r : ℕ} → First p L a r → r < length L → Some r ≡ place_found p L a
+  unfolding place_found
+  some_found {r} f h = rw (← first-least f, lt-ltb r (length L) h)
+
+  pub none_found : {r : ℕ} → First p L a r → length L ≤ r → None ≡ place_found p L a
+  unfolding place_found
+  none_found {r} f h = rw (← first-least f, le-ltb r (length L) h)
+
+  module _ (most : a ≤ length L) where
+    pub found_first : {r : ℕ} → Some r ≡ place_found p L a → First p L a r × (r < length L)
+    unfolding place_found
+    found_first {r} =
+        let q = least_from p L a in
+        cases (ltb q (length L))
+        (λ t e.
+        let same : Some r ≡ Some q = rw t at e in
+        let z : r ≡ q = cc in
+        rw z (least_first p L a most, ltb-true q (length L) t))
+        (λ f e. let no : Some r ≡ None = rw f at e in absurd cc)
+
+    pub missing_first : None ≡ place_found p L a → First p L a (length L)
+    unfolding place_found
+    missing_first =
+        let q = least_from p L a in
+        let g = least_first p L a most in
+        cases (ltb q (length L))
+        (λ t e. let no : None ≡ Some q = rw t at e in absurd cc)
+        (λ f e. let z : length L ≡ q = omega (arith, g.most, ltb-false q (length L) f) in rw z g)

@@ -108,9 +108,6 @@ pub record Closing (n : ℕ) (w₀ w p : List ℕ) (count m : ℕ) : Type 0 wher
   pub counted : count + cycles (pattern_of m w) ≡ cycles (pattern_of n w₀)
   pub few : count + m ≤ 20
 
-pub closing_begins : {n : ℕ} {w p : List ℕ} → n ≤ 20 → length w ≡ 21 → length p ≡ 21 → Linked n w p → Closing n w w p 0 n
-closing_begins h zw zp k = record { small = h; sizes = (zw, zp); linked = k; counted = omega arith; few = omega arith }
-
 pub closing_ends : {n : ℕ} {w₀ w p : List ℕ} {count : ℕ} → Closing n w₀ w p count 0 → count ≡ cycles (pattern_of n w₀)
 unfolding cycles tally range
 closing_ends c = omega (arith, c.counted)
@@ -129,22 +126,6 @@ closing_next {n} {m} {w₀} {w} {p} {count} {more} c e =
       counted = omega (arith, c.counted, unlinked-closed m w p (omega arith) c.linked);
       few = omega (arith, c.few, one_bound (eqb v (suc m)));
     }
-
--- a wish and a position are small
-points_low : (n : ℕ) (w p : List ℕ) → 1 ≤ n → Points n w p → get_or w n 0 ≤ n
-points_low n w p h f = by_entry (ℕ_discrete (get_or w n 0) 0)
-  where
-    by_entry : Dec (get_or w n 0 ≡ 0) → get_or w n 0 ≤ n
-    by_entry (yes e) = omega arith
-    by_entry (no d) = (f n h (omega arith) d).0
-
--- with a position left
-module _ {n : ℕ} {w₀ w p : List ℕ} {count m : ℕ} (h : 1 ≤ m) (c : Closing n w₀ w p count m) where
-  pub low_value : get_or w m 0 ≤ 20
-  low_value = omega (arith, points_low m w p h c.linked.values, c.small)
-
-  pub low-position : get_or p m 0 ≤ 20
-  low-position = omega (arith, points_low m p w h c.linked.positions, c.small)
 
 pub closing_step : {n : ℕ} {w₀ w p : List ℕ} {count more : ℕ} (m : ℕ) → 1 ≤ m → Closing n w₀ w p count m → more ≡ count + one (eqb (get_or w m 0) m)
     → Closing n w₀ (set w (get_or p m 0) (get_or w m 0)) (set p (get_or w m 0) (get_or p m 0)) more (m - 1)

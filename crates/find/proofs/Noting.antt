@@ -3,7 +3,6 @@ use mathlib.Core.Path.{◌≡◌, refl, sym, ap, ◌∙◌}
 use Prim.Native.Nat.{ℕ, suc, ◌+◌, ◌-◌, ◌≤◌, ◌<◌}
 use native.Mathlib.Omega.{arith}
 use native.Mathlib.Decide.{ℕ_discrete}
-use mathlib.Core.Bool.{true, false, true≢false, false≢true}
 use mathlib.Core.List.{List, [], ◌∷◌}
 use lib.Dec.{eqb}
 use lib.ListN.{length, get_or, set, drop, replicate, length-set, length-drop, get_or-replicate}
@@ -13,7 +12,7 @@ use Rattle.perm.specs.Lists.{one, tally}
 use Rattle.perm.specs.Permutation.{IsPartial}
 use Rattle.perm.proofs.Tally.{tally-append}
 use Rattle.find.specs.Counting.{free}
-use Rattle.find.specs.Search.{pattern_of, AreByValue}
+use Rattle.find.specs.Search.{pattern_of, Sound}
 use Rattle.find.proofs.Patterns.{pattern_at}
 
 -- the positions below i are noted, each at its value
@@ -47,10 +46,6 @@ module _ {n : ℕ} {w : List ℕ} {i f : ℕ} {p : List ℕ} (small : n ≤ 20) 
       let f : 1 + (i - 1) ≡ i = omega arith in
       rw (e, take-suc (drop 1 w) (i - 1) 0 (omega (arith, length-drop 1 w)), tally-append (eqb 0) (pattern_of (i - 1) w) (get_or (drop 1 w) (i - 1) 0 ∷ []), get_or-drop 1 w (i - 1) 0, f)
       (omega arith)
-
-  -- wishes with one above n are no partial permutation
-  pub too-high : n < value → IsPartial n (pattern_of n w) → ⊥
-  too-high b q = omega (arith, pattern_at n w i l u, q.bound i l u)
 
   -- nor with one for a value that is noted
   pub noted-before : (value ≡ 0 → ⊥) → value ≤ n → (get_or p value 0 ≡ 0 → ⊥) → IsPartial n (pattern_of n w) → ⊥
@@ -108,18 +103,13 @@ module _ {n : ℕ} {w : List ℕ} {i f : ℕ} {p : List ℕ} (small : n ≤ 20) 
           rw there (omega arith, b)
 
 -- at last all are
-pub all_seen : {n : ℕ} {w : List ℕ} {i f : ℕ} {p : List ℕ} → n + 1 ≡ i → Seen n w i f p → AreByValue n w (record { sound = true; free = f; positions = p })
+pub all_seen : {n : ℕ} {w : List ℕ} {i f : ℕ} {p : List ℕ} → n + 1 ≡ i → Seen n w i f p → Sound n w (record { free = f; positions = p })
 all_seen {n} {w} {i} e s =
     let q : i - 1 ≡ n = omega arith in
     record {
-      linked = λ t. record {
+      linked = record {
         values = λ x l u. s.values x l (omega arith);
         positions = λ v l u d. let (a, b) = s.back v l u d in (omega arith, b);
       };
-      unsound = λ f. absurd (true≢false f);
-      counted = λ t. s.counted ∙ ap (λ (j : ℕ). free (pattern_of j w)) q;
+      counted = s.counted ∙ ap (λ (j : ℕ). free (pattern_of j w)) q;
     }
-
--- or it was seen that they are no partial permutation
-pub seen_unsound : {n : ℕ} {w : List ℕ} {f : ℕ} {p : List ℕ} → (IsPartial n (pattern_of n w) → ⊥) → AreByValue n w (record { sound = false; free = f; positions = p })
-seen_unsound d = record { linked = λ t. absurd (false≢true t); unsound = λ _. d; counted = λ t. absurd (false≢true t) }

@@ -1,10 +1,15 @@
 -- Wishes in a list that has the wish of position i at index i. Assumes nothing.
-use mathlib.Core.Path.{◌≡◌, sym, ap, ◌∙◌}
+use mathlib.Core.Path.{◌≡◌, refl, sym, ap, ◌∙◌}
 use Prim.Native.Nat.{ℕ, zero, suc, ◌+◌, ◌-◌, ◌≤◌, ◌<◌}
 use native.Mathlib.Omega.{arith}
-use mathlib.Core.List.{List, [], ◌∷◌, ◌++◌}
+use mathlib.Core.Bool.{Bool, true, false, ◌||◌}
+use mathlib.Core.List.{List, [], ◌∷◌}
+use lib.Dec.{ltb}
 use lib.ListN.{length, get_or, set, take, drop, length-drop}
-use lib.Seq.{length-take-le, get_or-take, get_or-drop, take-set-lt, take-take, take-suc, take-suc-set, drop-set-lt, drop-set-add}
+use lib.Seq.{length-take-le, get_or-take, get_or-drop, take-set-lt, take-take, drop-set-lt, drop-set-add}
+use borrow.Author.Tests.{lt-ltb}
+use Rattle.std.specs.List.{list_any}
+use Rattle.perm.specs.Lists.{one, tally, some}
 use Rattle.perm.specs.Permutation.{at}
 use Rattle.find.specs.Search.{smaller, pattern_of}
 
@@ -38,17 +43,12 @@ pattern_below (suc m) w x l u =
     let e : suc m - 1 ≡ m = omega arith in
     ap (λ (j : ℕ). pattern_of j (set w x (get_or w (suc m) 0))) e ∙ pattern_left m w x l u ∙ ap (λ (j : ℕ). smaller j x (pattern_of (suc m) w)) (sym e)
 
--- one position more of a copy
-pub pattern_next : (w s : List ℕ) (i : ℕ) → i + 1 < length w → i < length s → pattern_of i w ≡ take i s
-    → pattern_of (i + 1) (set w (i + 1) (get_or s i 0)) ≡ take (i + 1) s
-pattern_next w s i h l e =
-    let v = get_or s i 0 in
-    let a : i + 1 ≡ 1 + i = omega arith in
-    let b : i + 1 ≡ suc i = omega arith in
-    ap (λ (j : ℕ). pattern_of (i + 1) (set w j v)) a
-    ∙ ap (take (i + 1)) (drop-set-add 1 w i v)
-    ∙ ap (λ (j : ℕ). take j (set (drop 1 w) i v)) b
-    ∙ take-suc-set (drop 1 w) i v (omega (arith, length-drop 1 w))
-    ∙ ap (λ (x : List ℕ). x ++ (v ∷ [])) e
-    ∙ sym (take-suc s i 0 l)
-    ∙ ap (λ (j : ℕ). take j s) (sym b)
+-- some wish passes a test
+pub some-any : (p : ℕ → Bool) (w : List ℕ) → list_any p w ≡ some p w
+unfolding tally
+some-any p [] = refl
+some-any p (x ∷ w) = by_first (p x) (some-any p w)
+  where
+    by_first : (b : Bool) → list_any p w ≡ some p w → (b || list_any p w) ≡ ltb 0 (one b + tally p w)
+    by_first true e = sym (lt-ltb 0 (1 + tally p w) (omega arith))
+    by_first false e = let z : 0 + tally p w ≡ tally p w = omega arith in rw z e

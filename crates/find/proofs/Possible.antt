@@ -18,7 +18,7 @@ use Rattle.gray.specs.Order.{S}
 use Rattle.find.specs.Meeting.{meets}
 use Rattle.find.specs.declared.ByValue.{ByValue}
 use Rattle.find.specs.Counting.{free}
-use Rattle.find.specs.Search.{pattern_of, AreByValue}
+use Rattle.find.specs.Search.{pattern_of, Sound}
 use Rattle.find.proofs.Counting.{none_meets, counted}
 use Rattle.find.proofs.Patterns.{length_pattern}
 use Rattle.find.proofs.Links.{linked_partial}
@@ -56,25 +56,25 @@ few_cycles : (w : List ℕ) → cycles w ≤ length w
 unfolding cycles
 few_cycles w = omega (arith, tally-not (least w) (positions (length w)), length-range 1 (length w))
 
+-- wishes that are no partial permutation are met by no row
+pub none-sound : (n k : ℕ) (w : List ℕ) → n < length w → (IsPartial n (pattern_of n w) → ⊥) → false ≡ some (meets (pattern_of n w)) (S n k)
+none-sound n k w h f = sym (ap (ltb 0) (none_meets n k (pattern_of n w) (length_pattern n w h) f))
+
 -- from the wishes by their values
-module _ {n : ℕ} (k : ℕ) {w : List ℕ} {r : ByValue} (h : n < length w) (b : AreByValue n w r) where
-  pub none-sound : r.sound ≡ false → false ≡ some (meets (pattern_of n w)) (S n k)
-  none-sound f = sym (ap (ltb 0) (none_meets n k (pattern_of n w) (length_pattern n w h) (b.unsound f)))
+module _ {n : ℕ} (k : ℕ) {w : List ℕ} {r : ByValue} (h : n < length w) (b : Sound n w r) {q : ℕ} (e : q ≡ cycles (pattern_of n w)) where
+  partial : IsPartial n (pattern_of n w)
+  partial = linked_partial w r.positions h b.linked
 
-  module _ (t : r.sound ≡ true) {q : ℕ} (e : q ≡ cycles (pattern_of n w)) where
-    partial : IsPartial n (pattern_of n w)
-    partial = linked_partial w r.positions h (b.linked t)
+  pub few : q + r.free ≤ n + n
+  few = omega (arith, e, few_cycles (pattern_of n w), b.counted, tally-not (eqb 0) (pattern_of n w), length_pattern n w h)
 
-    pub few : q + r.free ≤ n + n
-    few = omega (arith, e, few_cycles (pattern_of n w), b.counted t, tally-not (eqb 0) (pattern_of n w), length_pattern n w h)
+  pub all_closed : r.free ≡ 0 → eqb k q ≡ some (meets (pattern_of n w)) (S n k)
+  all_closed z = ap (eqb k) e ∙ sym (met-full n k (pattern_of n w) partial (sym b.counted ∙ z))
 
-    pub all_closed : r.free ≡ 0 → eqb k q ≡ some (meets (pattern_of n w)) (S n k)
-    all_closed z = ap (eqb k) e ∙ sym (met-full n k (pattern_of n w) partial (sym (b.counted t) ∙ z))
-
-    pub some-free : (r.free ≡ 0 → ⊥) → (x : Bool) → (x ≡ true → (q < k) × (k ≤ q + r.free)) → (x ≡ false → q < k → k ≤ q + r.free → ⊥)
-        → x ≡ some (meets (pattern_of n w)) (S n k)
-    some-free d true f g =
-        let (l, u) = f refl in
-        sym (met-open n k (pattern_of n w) partial (λ z. d (b.counted t ∙ z)) (omega (arith, e)) (omega (arith, e, b.counted t)))
-    some-free d false f g =
-        sym (met-fails n k (pattern_of n w) partial (λ z. d (b.counted t ∙ z)) (λ l u. g refl (omega (arith, e)) (omega (arith, e, b.counted t))))
+  pub some-free : (r.free ≡ 0 → ⊥) → (x : Bool) → (x ≡ true → (q < k) × (k ≤ q + r.free)) → (x ≡ false → q < k → k ≤ q + r.free → ⊥)
+      → x ≡ some (meets (pattern_of n w)) (S n k)
+  some-free d true f g =
+      let (l, u) = f refl in
+      sym (met-open n k (pattern_of n w) partial (λ z. d (b.counted ∙ z)) (omega (arith, e)) (omega (arith, e, b.counted)))
+  some-free d false f g =
+      sym (met-fails n k (pattern_of n w) partial (λ z. d (b.counted ∙ z)) (λ l u. g refl (omega (arith, e)) (omega (arith, e, b.counted))))

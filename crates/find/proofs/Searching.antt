@@ -3,35 +3,35 @@ use mathlib.Core.Path.{◌≡◌, refl, sym, ap, subst, ◌∙◌}
 use mathlib.Core.Logic.{◌⊎◌, inl, inr, ⊎_elim}
 use Prim.Native.Nat.{ℕ, zero, suc, ◌+◌, ◌-◌, ◌*◌, ◌≤◌, ◌<◌}
 use native.Mathlib.Omega.{arith}
-use mathlib.Core.Bool.{Bool, true, false, not, ◌&&◌, beq, true≢false}
+use mathlib.Core.Bool.{Bool, true, false, ◌&&◌, true≢false}
 use mathlib.Core.List.{List, []}
 use lib.Dec.{ltb}
 use lib.ListN.{length, get_or, length-reverse}
 use borrow.Table.Steps.{cases}
 use borrow.Author.Tests.{ltb-true, ltb-false}
+use Rattle.std.proofs.Common.{Some, None}
 use Rattle.stirling.specs.Count.{c}
 use Rattle.stirling.proofs.Refusals.{and-true}
 use Rattle.perm.specs.Lists.{tally, some}
 use Rattle.perm.proofs.Tally.{tally-reverse, none_passes}
 use Rattle.gray.specs.declared.Block.{Block}
-use Rattle.gray.specs.Order.{Row, S, letter}
-use Rattle.gray.specs.Blocks.{blocks, blocks_of, position_of}
+use Rattle.gray.specs.Order.{Row, S}
+use Rattle.gray.specs.Blocks.{blocks, position_of}
 use Rattle.gray.specs.Listing.{row_at}
 use Rattle.gray.proofs.Indexed.{block}
 use Rattle.gray.proofs.InPlace.{in_place}
 use Rattle.gray.proofs.Once.{length-S}
 use Rattle.rank.specs.Ranking.{PlaceIn}
-use Rattle.rank.specs.Search.{reading_of, grown, cycles_of, backward_of, turned, blocks_read, before, number_read}
+use Rattle.rank.specs.declared.Below.{Below}
+use Rattle.rank.specs.Search.{reading_of, grown, cycles_of, backward_of, turned, below_block, before, number_read}
 use Rattle.rank.proofs.Reversed.{row-size}
 use Rattle.rank.proofs.Starts.{in_range, before-none, before-suc, before-all, before-most, number_inside, number_back, block_read}
 use Rattle.rank.proofs.Around.{placed_in}
-use Rattle.rank.proofs.Parts.{differs}
-use Rattle.find.specs.declared.Part.{Part}
 use Rattle.find.specs.declared.Search.{Search}
 use Rattle.find.specs.Meeting.{granted, meets, least_from}
-use Rattle.find.specs.Search.{smaller, pattern_of, part_read, enters, Searchable, Searched}
+use Rattle.find.specs.Search.{smaller, place_found, pattern_of, below_at, enters, Searchable, Searched}
 use Rattle.find.proofs.Shorter.{meets-grown}
-use Rattle.find.proofs.Least.{First, least_first, first-least, first-none}
+use Rattle.find.proofs.Least.{First, least_first, first-none, some_found, none_found, found_first, missing_first}
 use Rattle.find.proofs.Patterns.{length_pattern, pattern_at}
 
 -- a reading has as many rows as the list, and a test counts alike in both
@@ -58,36 +58,18 @@ none_read p backward n k f r h =
     (tally-reading p backward n k ∙ omega (arith, ltb-false 0 (tally p (S n k)) f))
     r (rw (length-reading backward n k) h)
 
--- where S(n,k) has a block, k is 1 at least
-pub some-cycles : (n k number : ℕ) → number < length (blocks n k) → 1 ≤ k
-unfolding blocks blocks_of letter
-some-cycles n zero number l = absurd (omega arith)
-some-cycles n (suc k) number l = omega arith
-
--- the number of a block in written order, in either reading
-pub number_forward : (n k : ℕ) {backward : Bool} (number : ℕ) {j : ℕ} → backward ≡ false → j ≡ number → j ≡ number_read n k backward number
-number_forward n k number e q = rw e q
-
-pub number_backward : (n k : ℕ) {backward : Bool} (number : ℕ) {j count : ℕ} → backward ≡ true → count ≡ length (blocks n k) → j ≡ count - 1 - number
-    → j ≡ number_read n k backward number
-number_backward n k number e z q = rw e (omega arith)
-
 -- what stands below a block, from its number in written order
-pub part-is : (n k : ℕ) (backward : Bool) (number : ℕ) {j : ℕ} {b : Block} {odd : Bool} → number < length (blocks n k)
+pub below-is : (n k : ℕ) (backward : Bool) (number : ℕ) {j : ℕ} {b : Block} → number < length (blocks n k)
     → j ≡ number_read n k backward number
     → b ≡ block (blocks n k) j
-    → odd ≡ backward_of b
-    → ◌≡◌ {A = Part} (record { position = position_of n b; cycles = cycles_of k b; backward = not (beq backward odd) }) (part_read n k backward number)
-part-is n k backward number {j} {b} {odd} l e f o =
-    let is : b ≡ block (blocks_read n k backward) number = f ∙ ap (block (blocks n k)) e ∙ sym (block_read n k backward number l) in
-    let reads : not (beq backward odd) ≡ turned backward (backward_of (block (blocks_read n k backward) number)) =
-    differs backward odd ∙ ap (turned backward) (o ∙ ap backward_of is) in
-    λ t. record { position = position_of n (is t); cycles = cycles_of k (is t); backward = reads t }
+    → below_block n k backward b ≡ below_at n k backward number
+below-is n k backward number {j} {b} l e f =
+    ap (below_block n k backward) (f ∙ ap (block (blocks n k)) e ∙ sym (block_read n k backward number l))
 
 -- the block with a number in a reading of S(n,k)
 module _ (n k : ℕ) (backward : Bool) (number : ℕ) (h : 1 ≤ n) (l : number < length (blocks n k)) where
-  abbrev part : Part
-  part = part_read n k backward number
+  abbrev part : Below
+  part = below_at n k backward number
 
   pub part-position : (1 ≤ part.position) × (part.position ≤ n)
   part-position =
@@ -115,13 +97,13 @@ module _ (n k : ℕ) (backward : Bool) (number : ℕ) (h : 1 ≤ n) (l : number 
 
 -- what wishes say of its rows
 part_meets : (n k : ℕ) (backward : Bool) (number : ℕ) (w : List ℕ) → 1 ≤ n → n < length w → number < length (blocks n k)
-    → let q = part_read n k backward number in
+    → let q = below_at n k backward number in
     (r : ℕ) → r < c (n - 1) q.cycles
     → meets (pattern_of n w) (row_at (reading_of backward n k) (before n k backward number + r))
     ≡ (granted (get_or w q.position 0) n && meets (smaller (n - 1) q.position (pattern_of n w)) (row_at (reading_of q.backward (n - 1) q.cycles) r))
 part_meets zero k backward number w h z l r u = absurd (omega arith)
 part_meets (suc m) k backward number w h z l r u =
-    let q = part_read (suc m) k backward number in
+    let q = below_at (suc m) k backward number in
     let e : suc m - 1 ≡ m = omega arith in
     let (lx, ux) = part-position (suc m) k backward number h l in
     let γ = row_at (reading_of q.backward (suc m - 1) q.cycles) r in
@@ -159,18 +141,18 @@ ends {n} {k} {backward} {start} {w} {number} {first} h s g l =
 
 -- at a block, with the part that it makes
 module _ {n k : ℕ} {backward : Bool} {start : ℕ} {w : List ℕ} {number first calls : ℕ} (h : 1 ≤ n) (z : n < length w)
-    (g : Going n k backward start w number first calls) (l : number < length (blocks n k)) {here : Part} (e : here ≡ part_read n k backward number) where
+    (g : Going n k backward start w number first calls) (l : number < length (blocks n k)) {here : Below} (e : here ≡ below_at n k backward number) where
   abbrev size : ℕ
   size = c (n - 1) here.cycles
 
   pub position_here : (1 ≤ here.position) × (here.position ≤ n)
-  position_here = subst (λ (q : Part). (1 ≤ q.position) × (q.position ≤ n)) (sym e) (part-position n k backward number h l)
+  position_here = subst (λ (q : Below). (1 ≤ q.position) × (q.position ≤ n)) (sym e) (part-position n k backward number h l)
 
   -- the next one starts where it ends
   pub ends_at : first + size ≡ before n k backward (suc number)
   ends_at =
       ap (λ (a : ℕ). a + size) g.stands
-      ∙ ap (λ (q : Part). before n k backward number + c (n - 1) q.cycles) e
+      ∙ ap (λ (q : Below). before n k backward number + c (n - 1) q.cycles) e
       ∙ part-next n k backward number h l
 
   meets-in : (r : ℕ) → r < size → meets (pattern_of n w) (row_at (reading_of backward n k) (first + r))
@@ -178,7 +160,7 @@ module _ {n k : ℕ} {backward : Bool} {start : ℕ} {w : List ℕ} {number firs
   meets-in r u =
       ap (λ (a : ℕ). meets (pattern_of n w) (row_at (reading_of backward n k) (a + r))) g.stands
       ∙ subst
-      (λ (q : Part). r < c (n - 1) q.cycles → meets (pattern_of n w) (row_at (reading_of backward n k) (before n k backward number + r))
+      (λ (q : Below). r < c (n - 1) q.cycles → meets (pattern_of n w) (row_at (reading_of backward n k) (before n k backward number + r))
       ≡ (granted (get_or w q.position 0) n && meets (smaller (n - 1) q.position (pattern_of n w)) (row_at (reading_of q.backward (n - 1) q.cycles) r)))
       (sym e) (part_meets n k backward number w h z l r) u
 
@@ -278,26 +260,35 @@ few_rows zero = omega arith
 few_rows (suc k) = omega arith
 
 pub searched-nothing : {n k : ℕ} {backward : Bool} {start : ℕ} {w : List ℕ} → n ≡ 0 → Searchable n k start w
-    → Searched n k backward start w (record { place = 0; calls = 1 })
+    → Searched n k backward start w (record { place = Some 0; calls = 1 })
 searched-nothing {n} {k} {backward} {start} {w} e s =
     let p = meets (pattern_of n w) in
+    let rows = reading_of backward n k in
     let low : c n k ≤ 1 = rw e (few_rows k) in
     let first : start ≡ 0 = omega (arith, s.below) in
-    let r = first_below p backward n k s.met (least_first p (reading_of backward n k) 0 (omega arith)) in
+    let f = least_first p rows 0 (omega arith) in
+    let here : least_from p rows 0 ≡ 0 = omega (arith, first_below p backward n k s.met f) in
     record {
-      place = rw first (omega arith);
+      place = rw first (some_found p rows 0 (rw here at f) (rw (length-reading backward n k) (omega (arith, s.below))));
       few = omega arith;
       straight = λ _. omega arith;
       missed = λ _. omega arith;
     }
 
 -- what the search of a list below says of its rows
-pub first_of : {n k : ℕ} {backward : Bool} {start : ℕ} {w u : List ℕ} {r : Search} → pattern_of n w ≡ u → start ≤ c n k
-    → Searched n k backward start w r → First (meets u) (reading_of backward n k) start r.place
-first_of {n} {k} {backward} {start} {w} {u} {r} e h s =
-    subst (λ (a : ℕ). First (meets u) (reading_of backward n k) start a)
-    (ap (λ (v : List ℕ). least_from (meets v) (reading_of backward n k) start) (sym e) ∙ sym s.place)
-    (least_first (meets u) (reading_of backward n k) start (rw (length-reading backward n k) h))
+module _ {n k : ℕ} {backward : Bool} {start : ℕ} {w u : List ℕ} {r : Search} (e : pattern_of n w ≡ u) (h : start ≤ c n k) (s : Searched n k backward start w r) where
+  place-in : r.place ≡ place_found (meets u) (reading_of backward n k) start
+  place-in = s.place ∙ ap (λ (v : List ℕ). place_found (meets v) (reading_of backward n k) start) e
+
+  -- the row found is the first
+  pub first_of : {x : ℕ} → r.place ≡ Some x → First (meets u) (reading_of backward n k) start x × (x < c n k)
+  first_of {x} q =
+      let (f, l) = found_first (meets u) (reading_of backward n k) start (rw (length-reading backward n k) h) (sym q ∙ place-in) in
+      (f, rw (length-reading backward n k) at l)
+
+  -- or there is none
+  pub none_of : r.place ≡ None → First (meets u) (reading_of backward n k) start (c n k)
+  none_of q = rw (length-reading backward n k) at (missing_first (meets u) (reading_of backward n k) start (rw (length-reading backward n k) h) (sym q ∙ place-in))
 
 -- the search ends with what it found in a block, by as many lists as were gone through before and below
 pub searched-found : {n k : ℕ} {backward : Bool} {start : ℕ} {w : List ℕ} {number first calls r inner size : ℕ} → 1 ≤ n
@@ -307,9 +298,9 @@ pub searched-found : {n k : ℕ} {backward : Bool} {start : ℕ} {w : List ℕ} 
     → first + size ≤ c n k
     → inner ≤ 2 * (n - 1) + 1
     → (start - first ≡ 0 → inner ≤ n - 1 + 1)
-    → Searched n k backward start w (record { place = first + r; calls = calls + inner })
+    → Searched n k backward start w (record { place = Some (first + r); calls = calls + inner })
 searched-found {n} {k} {backward} {start} {w} {number} {first} {calls} {r} {inner} h g f u m few straight = record {
-  place = first-least (meets (pattern_of n w)) (reading_of backward n k) start f;
+  place = some_found (meets (pattern_of n w)) (reading_of backward n k) start f (rw (length-reading backward n k) (omega arith));
   few = ⊎_elim
       (λ (e : calls ≡ 1). omega arith)
       (λ (b : (1 ≤ start) × (start < first)). omega (arith, g.few, straight (omega arith)))
@@ -318,7 +309,7 @@ searched-found {n} {k} {backward} {start} {w} {number} {first} {calls} {r} {inne
       (λ (e : calls ≡ 1). omega (arith, straight (omega arith)))
       (λ (b : (1 ≤ start) × (start < first)). absurd (omega arith))
       g.once;
-  missed = λ z. absurd (omega arith);
+  missed = λ z. absurd cc;
 }
 
 -- or with none
@@ -326,10 +317,12 @@ pub searched_none : {n k : ℕ} {backward : Bool} {start : ℕ} {w : List ℕ} {
     → Searchable n k start w
     → Going n k backward start w number first calls
     → length (blocks n k) ≤ number
-    → Searched n k backward start w (record { place = first; calls = calls })
-searched_none {n} {k} {backward} {start} {w} h s g l = record {
-  place = first-least (meets (pattern_of n w)) (reading_of backward n k) start (ends h s.below g l);
-  few = omega (arith, g.few);
-  straight = λ _. g.few;
-  missed = λ _. g.few;
-}
+    → Searched n k backward start w (record { place = None; calls = calls })
+searched_none {n} {k} {backward} {start} {w} {number} {first} h s g l =
+    let all : c n k ≡ first = sym (g.stands ∙ before-all n k backward number h l) in
+    record {
+      place = none_found (meets (pattern_of n w)) (reading_of backward n k) start (ends h s.below g l) (rw (length-reading backward n k) (omega arith));
+      few = omega (arith, g.few);
+      straight = λ _. g.few;
+      missed = λ _. g.few;
+    }

@@ -1,6 +1,7 @@
 -- The first row at or after a place that meets the wishes: document 02, i), for every input. These are definitions; nothing is assumed.
-use Rattle.std.specs.Prelude.{ℕ, not, ◌||◌, List, eqb, ltb, length, drop}
-use Rattle.stirling.specs.Refusal.{refuse, ◌then◌, unless}
+use Rattle.std.specs.Prelude.{ℕ, not, ◌||◌, List, eqb, ltb, length, drop, Result, Ok, Err}
+use Rattle.stirling.specs.Refusal.{refuse, ◌then◌, unless, number}
+use Rattle.stirling.specs.declared.Refusal.{Refusal}
 use Rattle.stirling.specs.Count.{check_place}
 use Rattle.perm.specs.Lists.{some}
 use Rattle.gray.specs.Order.{S}
@@ -27,6 +28,11 @@ check_met n k place w = refuse (not (some (meets w) (drop place (S n k)))) 14
 -- all checks, in document 02's order: 1, 2, 3, 5, 6, and last of all 14
 abbrev pub check_find : ℕ → ℕ → ℕ → List ℕ → ℕ → ℕ
 check_find n k place w size = check_asked n k place w size then check_met n k place w
+
+-- what a call gives, as C has it: no refusal and the place, or the refusal's number and 0
+abbrev pub answer_of : Result ℕ Refusal → Found
+answer_of (Ok place) = record { refusal = 0; place = place }
+answer_of (Err refusal) = record { refusal = number refusal; place = 0 }
 
 -- what the call gives: the refusal, and the first place at or after `place` whose row meets the wishes, 0 on a refusal
 abbrev pub find_of : ℕ → ℕ → ℕ → List ℕ → ℕ → Found

@@ -2,77 +2,50 @@
 // its permutation, or the refusal. `stdout` comes from another author's generator.
 #![tactic(auto)]
 
-use find::Found;
+use print::{Joined, Named};
 use std::io;
 use std::io::Write;
 
-// What was found: its place and the permutation, or the refusal.
-fn print_found<W: Write>(out: &mut W, found: Found, row: &[u8]) -> io::Result<()> {
-    if found.refusal != 0 {
-        print::text(out, b"refused ")?;
-        print::number(out, found.refusal as u64)?;
+// A search: the place from which on it is made, and the wishes.
+#[derive(Drop)]
+struct Search<'a> {
+    from: Named,
+    pattern: &'a [u8],
+}
+
+// The search at the front of a text, and what stands after it. A search for no wishes is read only where a byte stands after it.
+fn split_search(text: &[u8]) -> Option<(Search<'_>, &[u8])> {
+    let (from, rest) = print::split_named(text)?;
+    if rest.is_empty() {
+        return None;
+    }
+    let (pattern, rest) = rest.split_at_checked(usize::from(from.n))?;
+    Some((Search { from, pattern }, rest))
+}
+
+// The line of a search, of at most 20 wishes.
+fn print_search<W: Write>(out: &mut W, search: Search<'_>) -> io::Result<()> {
+    let Named { n, k, place } = search.from;
+    let pattern = search.pattern;
+    let mut space = [0u8; 20];
+    let Some(row) = space.get_mut(..pattern.len()) else {
         return Ok(());
+    };
+    let found = find::find(u64::from(n), u64::from(k), place, pattern, row);
+    write!(out, "{n} {k} {place} | {} | ", Joined(pattern, " "))?;
+    match found {
+        Ok(place) => writeln!(out, "{place} | {}", Joined(row, " ")),
+        Err(refusal) => writeln!(out, "refused {}", refusal.number()),
     }
-    print::number(out, found.place)?;
-    print::text(out, b" | ")?;
-    print::values(out, row)
-}
-
-// The line of a search: `row` is as many bytes as there are wishes to write the permutation to.
-fn print_line<W: Write>(
-    out: &mut W,
-    k: u64,
-    place: u64,
-    pattern: &[u8],
-    row: &mut [u8],
-) -> io::Result<()> {
-    let n = pattern.len() as u64;
-    let found = find::find(n, k, place, pattern, row);
-    print::field(out, n)?;
-    print::field(out, k)?;
-    print::number(out, place)?;
-    print::text(out, b" | ")?;
-    print::values(out, pattern)?;
-    print::text(out, b" | ")?;
-    print_found(out, found, row)?;
-    print::text(out, b"\n")
-}
-
-// The same, with space for the permutation.
-fn print_search<W: Write>(out: &mut W, k: u64, place: u64, pattern: &[u8]) -> io::Result<()> {
-    let n = pattern.len();
-    if 20 < n {
-        return Ok(());
-    }
-    let mut row = [0u8; 20];
-    print_line(out, k, place, pattern, &mut row[..n])
-}
-
-// The lines of all searches of a text.
-fn print_all<W: Write>(out: &mut W, text: &[u8]) -> io::Result<()> {
-    let mut at = 0;
-    while text.len() - at > 10 {
-        let n = text[at] as usize;
-        let from = at + 10;
-        if n > text.len() - from {
-            return Ok(());
-        }
-        let end = from + n;
-        print_search(
-            out,
-            text[at + 1] as u64,
-            print::place_of(&text[at + 2..from]),
-            &text[from..end],
-        )?;
-        at = end;
-    }
-    Ok(())
 }
 
 fn main(rt: HostRuntime) -> io::Result<()> {
+    // Not shared with the other programs that read records: the size is in the array's type, and a function for all would take it, `split` and `each`.
     let mut text = [0u8; 32768];
     let size = print::read_full(&mut rt.stdin(), &mut text);
     let mut out = rt.stdout();
-    print_all(&mut out, &text[..size])?;
+    print::each_record(&text[..size], split_search, |search| {
+        print_search(&mut out, search)
+    })?;
     out.flush()
 }

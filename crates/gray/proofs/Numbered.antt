@@ -9,14 +9,12 @@ use mathlib.Core.List.{List, [], ◌∷◌, ◌++◌, append-nil}
 use lib.Dec.{eqb}
 use borrow.Table.Steps.{cases}
 use borrow.Author.Tests.{eqb-true, eqb-false, eq-eqb, ne_eqb}
-use lib.ListN.{length, length-append, get_or-eq_default}
+use lib.ListN.{length, length-append}
 use Rattle.gray.specs.declared.Block.{Block}
 use Rattle.gray.specs.declared.Block.TheVariants.{Insert as I, Extend as E}
-use Rattle.gray.specs.declared.NumberedBlock.{NumberedBlock}
 use Rattle.gray.specs.declared.Letter.{Letter}
-use Rattle.gray.specs.declared.Letter.TheVariants.{Nothing as no-letter}
 use Rattle.gray.specs.Order.{letter, rising, falling, blocks_c3, blocks_c, blocks_d, blocks_e}
-use Rattle.gray.specs.Blocks.{blocks_of_a, blocks_of, blocks, position_of, number_in, number_of, numbered}
+use Rattle.gray.specs.Blocks.{blocks_of_a, blocks_of, blocks, position_of, number_in, number_of}
 use Rattle.gray.proofs.Which.{Which, is_none, is-a, is_b, is_c, is-d, is-e, which}
 use Rattle.gray.proofs.Indexed.{block, length-falling, length-rising, long_a}
 use Rattle.gray.proofs.InPlace.{InPlace, in_place, few_blocks}
@@ -321,25 +319,9 @@ pub counted : (n k x : ℕ) → CountOf n k x → x ≡ length (blocks n k)
 counted n k x w = is-count n k x w (which n k)
 
 -- the block that puts n at position i, with its number, as the relation has it that the letter names
-pub picked : (n k i : ℕ) {l : Letter} {number : ℕ} {b : Block} → letter n k ≡ l → number ≡ number_in n i (blocks_of l n k) → b ≡ block (blocks_of l n k) number
-    → ◌≡◌ {A = NumberedBlock} (record { number = number; block = b }) (numbered n k i)
+pub picked : (n k i : ℕ) {l : Letter} {number : ℕ} → letter n k ≡ l → number ≡ number_in n i (blocks_of l n k) → number ≡ number_of n k i
 unfolding blocks
-picked n k i {number = number} e f g =
-    let same : blocks_of _ n k ≡ blocks n k = ap (λ (l : Letter). blocks_of l n k) (sym e) in
-    let number_is : number ≡ number_of n k i = f ∙ ap (number_in n i) same in
-    let block-is = g ∙ ap (λ (bs : List Block). block bs number) same ∙ ap (block (blocks n k)) number_is in
-    λ t. record { number = number_is t; block = block-is t }
-
--- where no block does, past the last one
-pub not_there : (n k i : ℕ) → length (blocks n k) ≡ number_of n k i → ◌≡◌ {A = NumberedBlock} (record { number = length (blocks n k); block = E 0 }) (numbered n k i)
-not_there n k i e =
-    let past : E 0 ≡ block (blocks n k) (number_of n k i) = sym (get_or-eq_default (blocks n k) (E 0) (rw e (omega arith))) in
-    λ t. record { number = e t; block = past t }
-
--- as where no relation gives the list
-pub no_list : (n k i : ℕ) → letter n k ≡ no-letter → length (blocks n k) ≡ number_of n k i
-unfolding blocks blocks_of number_in
-no_list n k i e = rw e
+picked n k i e f = f ∙ ap (λ (l : Letter). number_in n i (blocks_of l n k)) (sym e)
 
 pub single : (j : ℕ) → E 0 ≡ block (E 0 ∷ []) j
 single zero = refl

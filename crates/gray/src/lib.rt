@@ -7,25 +7,26 @@ ghost use Rattle.gray.specs.Blocks.{blocks_of_a, blocks, number_in, number_of, n
 
 // A block of a relation. `Insert { position: i, reading: e }` is document 01's I(i,[L]e), and `Extend { reading: e }` its E([M]e):
 // L = S(n-1,k) and M = S(n-1,k-1), read forward for even e and backward for odd e.
-#[derive(Drop)]
+#[derive(Clone, Copy)]
 pub enum Block {
     Insert { position: u64, reading: u64 },
     Extend { reading: u64 },
 }
 
-// Which of document 01's relations (a) to (e) gives S(n,k); `Nothing` where no permutation of n has k cycles, and for n = 0, whose list no relation gives.
-#[derive(Drop)]
+// Which of document 01's relations (a) to (e) gives S(n,k), by its own byte; `Nothing` where no permutation of n has k cycles, and for n = 0, whose list no relation gives.
+// It stays a variant, in place of None: the definitions `letter` and `blocks`, and the laws under the demands, are over this enum.
+#[derive(Clone, Copy)]
 pub enum Letter {
-    Nothing,
-    A,
-    B,
-    C,
-    D,
-    E,
+    Nothing = 0,
+    A = b'a' as isize,
+    B = b'b' as isize,
+    C = b'c' as isize,
+    D = b'd' as isize,
+    E = b'e' as isize,
 }
 
 // A block with its number, from 0 in written order.
-#[derive(Drop)]
+#[derive(Clone, Copy)]
 pub struct NumberedBlock {
     pub number: u64,
     pub block: Block,
@@ -35,25 +36,18 @@ pub struct NumberedBlock {
 pub fn letter_of(n: u64, k: u64) -> Letter
     ensures { result ≡ letter n k }
 {
-    if k == 0 {
-        return Letter::Nothing;
-    }
-    if n < k {
+    if k == 0 || n < k {
         return Letter::Nothing;
     }
     if k == 1 {
         return Letter::A;
     }
-    if k == n {
-        return Letter::B;
+    match n - k {
+        0 => Letter::B,
+        1 => Letter::C,
+        2 => Letter::D,
+        _ => Letter::E,
     }
-    if k + 1 == n {
-        return Letter::C;
-    }
-    if k + 2 == n {
-        return Letter::D;
-    }
-    Letter::E
 }
 
 // Block j of relation (a) for n up to 4, counted from 0; past the last one, as for all relations, `Extend { reading: 0 }`.
@@ -61,28 +55,14 @@ fn block_a4(n: u64, j: u64) -> Block
     requires { n < 5 }
     ensures { result ≡ get_or (blocks_of_a n) j (Block.Extend 0) }
 {
-    if n < 2 {
-        return Block::Extend { reading: 0 };
-    }
-    if n - 1 <= j {
-        return Block::Extend { reading: 0 };
-    }
-    if j == 0 {
-        return Block::Insert {
-            position: 1,
-            reading: 0,
-        };
-    }
-    if n == 3 {
-        return Block::Insert {
-            position: 2,
-            reading: 0,
-        };
-    }
-    Block::Insert {
-        position: j + 1,
-        reading: 1,
-    }
+    let (position, reading) = match (n, j) {
+        (2..=4, 0) => (1, 0),
+        (3, 1) => (2, 0),
+        (4, 1) => (2, 1),
+        (4, 2) => (3, 1),
+        _ => return Block::Extend { reading: 0 },
+    };
+    Block::Insert { position, reading }
 }
 
 // Block j of relation (a): for n >= 5, I(1,L); I(i,[L](i+1)) for i = n-1 down to 4; I(2,L); I(3,L reversed).
@@ -92,31 +72,14 @@ fn block_a(n: u64, j: u64) -> Block
     if n < 5 {
         return block_a4(n, j);
     }
-    if j == 0 {
-        return Block::Insert {
-            position: 1,
-            reading: 0,
-        };
-    }
-    if j < n - 3 {
-        return Block::Insert {
-            position: n - j,
-            reading: n - j + 1,
-        };
-    }
-    if j == n - 3 {
-        return Block::Insert {
-            position: 2,
-            reading: 0,
-        };
-    }
-    if j == n - 2 {
-        return Block::Insert {
-            position: 3,
-            reading: 1,
-        };
-    }
-    Block::Extend { reading: 0 }
+    let (position, reading) = match j {
+        0 => (1, 0),
+        _ if j < n - 3 => (n - j, n - j + 1),
+        _ if j == n - 3 => (2, 0),
+        _ if j == n - 2 => (3, 1),
+        _ => return Block::Extend { reading: 0 },
+    };
+    Block::Insert { position, reading }
 }
 
 // Block j of relation (c): for n >= 4, I(1,L); I(n-1,L); I(i,L) for i = n-3 down to 2; I(n-2,L); E(M reversed).
@@ -124,37 +87,19 @@ fn block_c(n: u64, j: u64) -> Block
     requires { 3 ≤ n }
     ensures { result ≡ get_or (cond (eqb n 3) blocks_c3 (blocks_c n)) j (Block.Extend 0) }
 {
-    if j == 0 {
-        return Block::Insert {
-            position: 1,
-            reading: 0,
-        };
+    let position = match j {
+        0 => 1,
+        1 => n - 1,
+        _ if n == 3 => return Block::Extend { reading: 0 },
+        _ if j < n - 2 => n - 1 - j,
+        _ if j == n - 2 => n - 2,
+        _ if j == n - 1 => return Block::Extend { reading: 1 },
+        _ => return Block::Extend { reading: 0 },
+    };
+    Block::Insert {
+        position,
+        reading: 0,
     }
-    if j == 1 {
-        return Block::Insert {
-            position: n - 1,
-            reading: 0,
-        };
-    }
-    if n == 3 {
-        return Block::Extend { reading: 0 };
-    }
-    if j < n - 2 {
-        return Block::Insert {
-            position: n - 1 - j,
-            reading: 0,
-        };
-    }
-    if j == n - 2 {
-        return Block::Insert {
-            position: n - 2,
-            reading: 0,
-        };
-    }
-    if j == n - 1 {
-        return Block::Extend { reading: 1 };
-    }
-    Block::Extend { reading: 0 }
 }
 
 // Block j of relation (d): I(1,L); I(i,[L]i) for i = 3 up to n-1; E(M); I(2,L reversed).
@@ -162,25 +107,13 @@ fn block_d(n: u64, j: u64) -> Block
     requires { 4 ≤ n }
     ensures { result ≡ get_or (blocks_d n) j (Block.Extend 0) }
 {
-    if j == 0 {
-        return Block::Insert {
-            position: 1,
-            reading: 0,
-        };
-    }
-    if j < n - 2 {
-        return Block::Insert {
-            position: j + 2,
-            reading: j + 2,
-        };
-    }
-    if j == n - 1 {
-        return Block::Insert {
-            position: 2,
-            reading: 1,
-        };
-    }
-    Block::Extend { reading: 0 }
+    let (position, reading) = match j {
+        0 => (1, 0),
+        _ if j < n - 2 => (j + 2, j + 2),
+        _ if j == n - 1 => (2, 1),
+        _ => return Block::Extend { reading: 0 },
+    };
+    Block::Insert { position, reading }
 }
 
 // Block j of relation (e): I(1,L); I(i,[L]i) for i = n-1 down to k+1; E([M]k); I(i,[L](i-1)) for i = k down to 2.
@@ -188,39 +121,23 @@ fn block_e(n: u64, k: u64, j: u64) -> Block
     requires { (2 ≤ k) × (k + 3 ≤ n) }
     ensures { result ≡ get_or (blocks_e n k) j (Block.Extend 0) }
 {
-    if j == 0 {
-        return Block::Insert {
-            position: 1,
-            reading: 0,
-        };
-    }
-    if j < n - k {
-        return Block::Insert {
-            position: n - j,
-            reading: n - j,
-        };
-    }
-    if j == n - k {
-        return Block::Extend { reading: k };
-    }
-    if j < n {
-        return Block::Insert {
-            position: n - j + 1,
-            reading: n - j,
-        };
-    }
-    Block::Extend { reading: 0 }
+    let (position, reading) = match j {
+        0 => (1, 0),
+        _ if j < n - k => (n - j, n - j),
+        _ if j == n - k => return Block::Extend { reading: k },
+        _ if j < n => (n - j + 1, n - j),
+        _ => return Block::Extend { reading: 0 },
+    };
+    Block::Insert { position, reading }
 }
 
-// Block j of S(n,k), counted from 0; `Extend { reading: 0 }` past the last one.
+// Block j of S(n,k), counted from 0; `Extend { reading: 0 }` past the last one, and no Option, since the clause of this call, which others cite, names that block.
 pub fn block_at(n: u64, k: u64, j: u64) -> Block
     ensures { result ≡ get_or (blocks n k) j (Block.Extend 0) }
 {
-    let letter = letter_of(n, k);
-    match letter {
-        Letter::Nothing => Block::Extend { reading: 0 },
+    match letter_of(n, k) {
+        Letter::Nothing | Letter::B => Block::Extend { reading: 0 },
         Letter::A => block_a(n, j),
-        Letter::B => Block::Extend { reading: 0 },
         Letter::C => block_c(n, j),
         Letter::D => block_d(n, j),
         Letter::E => block_e(n, k, j),
@@ -231,10 +148,7 @@ pub fn block_at(n: u64, k: u64, j: u64) -> Block
 pub fn block_count(n: u64, k: u64) -> u64
     ensures { result ≡ length (blocks n k) }
 {
-    if k == 0 {
-        return 0;
-    }
-    if k > n {
+    if k == 0 || k > n {
         return 0;
     }
     if n == k {
@@ -246,7 +160,8 @@ pub fn block_count(n: u64, k: u64) -> u64
     n
 }
 
-// The number of the block of relation (a) that puts value n at position i; n-1 where none does.
+// The number of the block of relation (a) that puts value n at position i; n-1 where none does. Here and at the three below i is 1 to n, a clause of each and no type,
+// since `block_number`, which alone calls them, takes every i.
 fn number_a(n: u64, i: u64) -> u64
     requires { (1 ≤ i) × (i ≤ n) }
     ensures { result ≡ number_in n i (blocks_of_a n) }
@@ -291,13 +206,11 @@ fn number_d(n: u64, i: u64) -> u64
     requires { (4 ≤ n) × (1 ≤ i) × (i ≤ n) }
     ensures { result ≡ number_in n i (blocks_d n) }
 {
-    if i == 1 {
-        return 0;
+    match i {
+        1 => 0,
+        2 => n - 1,
+        _ => i - 2,
     }
-    if i == 2 {
-        return n - 1;
-    }
-    i - 2
 }
 
 // The number of the block of relation (e) that puts value n at position i.
@@ -317,71 +230,31 @@ fn number_e(n: u64, k: u64, i: u64) -> u64
     n - i + 1
 }
 
-// No block, with the number of all blocks.
-fn no_block(n: u64, k: u64) -> NumberedBlock
-    ensures { result ≡ record { number = length (blocks n k); block = Block.Extend 0 } }
-{
-    NumberedBlock {
-        number: block_count(n, k),
-        block: Block::Extend { reading: 0 },
-    }
-}
-
-// The block of S(n,k) that puts value n at position i, with its number; where none does, `no_block`. The number is had by a formula, so that no other block is looked at.
-pub fn block_with(n: u64, k: u64, i: u64) -> NumberedBlock
-    ensures { result ≡ numbered n k i }
-{
-    if i == 0 {
-        return no_block(n, k);
-    }
-    if i > n {
-        return no_block(n, k);
-    }
-    let letter = letter_of(n, k);
-    match letter {
-        Letter::Nothing => no_block(n, k),
-        Letter::A => {
-            let number = number_a(n, i);
-            NumberedBlock {
-                number,
-                block: block_a(n, number),
-            }
-        }
-        Letter::B => {
-            let number = if i == n { 0 } else { 1 };
-            NumberedBlock {
-                number,
-                block: Block::Extend { reading: 0 },
-            }
-        }
-        Letter::C => {
-            let number = number_c(n, i);
-            NumberedBlock {
-                number,
-                block: block_c(n, number),
-            }
-        }
-        Letter::D => {
-            let number = number_d(n, i);
-            NumberedBlock {
-                number,
-                block: block_d(n, number),
-            }
-        }
-        Letter::E => {
-            let number = number_e(n, k, i);
-            NumberedBlock {
-                number,
-                block: block_e(n, k, number),
-            }
-        }
-    }
-}
-
-// The number, from 0 in written order, of the block of S(n,k) that puts value n at position i; where none does, the number of blocks.
+// The number, from 0 in written order, of the block of S(n,k) that puts value n at position i; where none does, the number of blocks, which the clause names too.
+// It is had by a formula, so that no block is looked at.
 pub fn block_number(n: u64, k: u64, i: u64) -> u64
     ensures { result ≡ number_of n k i }
 {
-    let numbered = block_with(n, k, i);
-    numbered.number
+    if i == 0 || i > n {
+        return block_count(n, k);
+    }
+    match letter_of(n, k) {
+        Letter::Nothing => 0,
+        Letter::A => number_a(n, i),
+        Letter::B => if i == n { 0 } else { 1 },
+        Letter::C => number_c(n, i),
+        Letter::D => number_d(n, i),
+        Letter::E => number_e(n, k, i),
+    }
+}
+
+// That block with its number; where no block puts n there, the one that stands for none past the last.
+pub fn block_with(n: u64, k: u64, i: u64) -> NumberedBlock
+    ensures { result ≡ numbered n k i }
+{
+    let number = block_number(n, k, i);
+    NumberedBlock {
+        number,
+        block: block_at(n, k, number),
+    }
 }

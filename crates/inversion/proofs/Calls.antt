@@ -1,4 +1,4 @@
--- What the two calls give where they are refused, and what they add up to: from table to sequence and back. Assumes nothing.
+-- What the two calls add up to: from table to sequence and back. Assumes nothing.
 use mathlib.Core.Path.{◌≡◌, refl, sym, ◌∙◌}
 use Prim.Native.Nat.{ℕ}
 use mathlib.Core.List.{List}
@@ -7,26 +7,13 @@ use Rattle.stirling.specs.Refusal.{◌then◌}
 use Rattle.stirling.specs.Count.{check_size}
 use Rattle.stirling.proofs.Refusals.{then_passed}
 use Rattle.perm.specs.Permutation.{IsPermutation}
-use Rattle.perm.specs.Checks.{check_lent, check_values, check_twice, check_entries, check_permutation, check_from_array, check_to_array}
+use Rattle.perm.specs.Checks.{check_lent, check_values, check_twice, check_entries}
 use Rattle.perm.proofs.Checked.{checked, passes_values, passes_twice, passes_array}
 use Rattle.perm.proofs.Refused.{lent_passes}
 use Rattle.inversion.specs.Table.{IsTable, IsSequence}
 use Rattle.inversion.specs.Calls.{FromInversions, ToInversions}
 use Rattle.inversion.proofs.Tables.{table_array, one_table}
 use Rattle.inversion.proofs.Sequences.{one_sequence}
-
--- after the checks 1 and 5, those of a permutation come
-pub contents_next : (s : List ℕ) (size : ℕ) {r : ℕ} → check_size (length s) then check_lent (length s) size ≡ 0 → r ≡ check_permutation s → r ≡ check_to_array s size
-contents_next s size e f =
-    let both = then_passed (check_size (length s)) (check_lent (length s) size) e in
-    rw (both.0, both.1) (rw both.0 at f)
-
--- a refused call writes nothing
-pub table_refused : {p before : List ℕ} {r : ℕ} → r ≡ check_from_array p (length before) → (r ≡ 0 → ⊥) → FromInversions p before r before
-table_refused e d = record { refusal = e; written = λ z. absurd (d z); kept = λ _. refl }
-
-pub sequence_refused : {q before : List ℕ} {r : ℕ} → r ≡ check_to_array q (length before) → (r ≡ 0 → ⊥) → ToInversions q before r before
-sequence_refused e d = record { refusal = e; written = λ z. absurd (d z); kept = λ _. refl }
 
 -- a slice of n bytes is lent for n
 lent : (n : ℕ) {size : ℕ} → size ≡ n → check_lent n size ≡ 0

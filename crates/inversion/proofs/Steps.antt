@@ -2,44 +2,43 @@
 -- nothing.
 use mathlib.Core.Path.{◌≡◌, refl, sym, ap, ◌∙◌}
 use Prim.Native.Nat.{ℕ, suc, ◌+◌, ◌-◌, ◌≤◌, ◌<◌}
-use native.Mathlib.Numerals.{add-one}
+use native.Mathlib.Numerals.{add-one, one-add}
+use native.Mathlib.Nat.{zero-add}
+use borrow.Table.Steps.{cases}
 use native.Mathlib.Omega.{arith}
 use native.Mathlib.Decide.{ℕ_discrete}
 use mathlib.Core.Bool.{Bool}
-use mathlib.Core.List.{List, [], ◌∷◌, map, map-append}
-use borrow.Author.Tests.{lt-ltb, le-ltb}
+use mathlib.Core.List.{List, [], ◌∷◌, ◌++◌, map, map-append}
 use lib.Dec.{ltb}
-use lib.ListN.{length, get_or, take, drop, set, length-set}
-use lib.Seq.{get_or-set_same, get_or-set_other, get_or-drop, drop-set-lt, drop-drop, take-suc, take-suc-set, take_all, take-length, length-take-le, get_or-take}
+use lib.ListN.{length, get_or, take, drop, set, length-set, length-map, length-append, length-drop}
+use lib.Seq.{get_or-set_same, get_or-set_other, get_or-drop, drop-set-lt, drop-drop, take-suc, take-suc-set, take_all, take-length, length-take-le, get_or-take, take_at}
 use Rattle.perm.specs.Permutation.{at}
 use Rattle.perm.specs.Array.{IsArray}
-use Rattle.perm.proofs.Counted.{CountedTo, counted_hit, counted_miss}
-use Rattle.perm.proofs.Values.{at_suc}
+use Rattle.std.specs.List.{filter, count_by}
+use Rattle.std.proofs.lemmas.List.Sums.{length-filter}
+use Rattle.perm.specs.Lists.{tally}
+use Rattle.perm.proofs.Tally.{tally-range_cong}
+use Rattle.perm.proofs.Values.{at_suc, tally_at}
 use Rattle.perm.proofs.Steps.{entry_bound, value_bound}
 use Rattle.inversion.specs.Table.{higher, IsTable, IsSequence}
 use Rattle.inversion.proofs.Tables.{higher-suc}
 use Rattle.inversion.proofs.Appended.{raise, appended}
 use Rattle.inversion.proofs.Sequences.{sequence_none, sequence-next}
 
--- the element at position j is higher than the one at index i
-abbrev pub above : List ℕ → ℕ → ℕ → Bool
-above q i j = ltb (at q (suc i)) (at q j)
+-- a chain counts the elements that pass a test
+passing : (p : ℕ → Bool) (s : List ℕ) → length (filter p s) ≡ tally p s
+unfolding tally
+passing p [] = refl
+passing p (x ∷ s) = cases (p x) (λ t. rw (t, passing p s, one-add) refl) (λ f. rw (f, passing p s, zero-add) refl)
 
--- index j holds position j + 1
-above_at : (q : List ℕ) (i j : ℕ) → above q i (j + 1) ≡ ltb (get_or q i 0) (get_or q j 0)
-above_at q i j = rw (add-one, at_suc q i, at_suc q j)
-
--- one element more is looked at: it is higher
-pub above_hit : (q : List ℕ) (i j : ℕ) {count : ℕ} → get_or q i 0 < get_or q j 0 → CountedTo (above q i) j count → CountedTo (above q i) (j + 1) (count + 1)
-above_hit q i j h = counted_hit {p = above q i} (above_at q i j ∙ lt-ltb (get_or q i 0) (get_or q j 0) h)
-
--- or it is not
-pub above_miss : (q : List ℕ) (i j : ℕ) {count : ℕ} → get_or q j 0 ≤ get_or q i 0 → CountedTo (above q i) j count → CountedTo (above q i) (j + 1) count
-above_miss q i j h = counted_miss {p = above q i} (above_at q i j ∙ le-ltb (get_or q i 0) (get_or q j 0) h)
-
--- all before index i are looked at
-pub above_all : (q : List ℕ) (i : ℕ) {count : ℕ} → CountedTo (above q i) i count → count ≡ higher q (i + 1)
-above_all q i w = rw add-one (w.counted ∙ sym (higher-suc q i))
+-- so it counts, among the first i elements, those that are higher than the one at index i
+pub counted-higher : (q : List ℕ) (i : ℕ) → i < length q → count_by (ltb (get_or q i 0)) (take i q) ≡ higher q (i + 1)
+counted-higher q i h =
+    sym (length-filter (ltb (get_or q i 0)) (take i q))
+    ∙ passing (ltb (get_or q i 0)) (take i q)
+    ∙ sym (tally_at (ltb (get_or q i 0)) (take i q) (length-take-le i q (omega arith)))
+    ∙ tally-range_cong _ (λ j. ltb (at q (suc i)) (at q j)) 1 i (λ j a b. rw (at_suc q i, get_or-take i q (j - 1) 0 (omega arith)) refl)
+    ∙ rw add-one (sym (higher-suc q i))
 
 -- the first i entries of the table of q are written
 pub record Written (q out : List ℕ) (i : ℕ) : Type 0 where
@@ -93,10 +92,17 @@ raised_step {v} {before} {out} j x h e w = record {
   rest = drop-set-lt (j + 1) out j x (omega arith) ∙ sym (drop-drop 1 j out) ∙ ap (drop 1) w.rest ∙ drop-drop 1 j before;
 }
 
+-- at last all are
+pub raised_all : {v : ℕ} {before out : List ℕ} (j : ℕ) → length before ≤ j → Raised v before out j → out ≡ map (raise v) before
+raised_all {v} {before} {out} j h w =
+    sym (take_all j out (omega (arith, w.size))) ∙ w.front ∙ ap (map (raise v)) (take_all j before h)
+
 -- and v after them
-pub raised_all : {v : ℕ} {before out : List ℕ} (m : ℕ) → m < length before → Raised v before out m → take (m + 1) (set out m v) ≡ appended v (take m before)
+v_after : (v : ℕ) (q rest : List ℕ) (m : ℕ) → length q ≡ m → m < length (map (raise v) q ++ rest)
+    → take (m + 1) (set (map (raise v) q ++ rest) m v) ≡ appended v q
 unfolding appended
-raised_all {v} {before} {out} m h w = rw (add-one, take-suc-set out m v (omega (arith, w.size)), w.front)
+v_after v q rest m e h =
+    rw (add-one, take-suc-set (map (raise v) q ++ rest) m v h, take_at (map (raise v) q) rest m (length-map q (raise v) ∙ e))
 
 -- the sequence of the first m entries is made
 pub record Made (a out : List ℕ) (m : ℕ) : Type 0 where
@@ -108,21 +114,22 @@ pub record Made (a out : List ℕ) (m : ℕ) : Type 0 where
 pub made_none : {a out : List ℕ} → length out ≡ length a → Made a out 0
 made_none e = record { size = e; bound = omega arith; front = sequence_none }
 
--- an element that is raised is one of 1 to m
-pub raised_bound : {v : ℕ} {p before out : List ℕ} (m j : ℕ) → length p ≡ m → j < m → IsSequence p (take m before) → Raised v before out j → get_or out j 0 ≤ m
-raised_bound {before = before} m j e h s w =
+-- an element that is to be raised is one of 1 to m
+pub raised_bound : {v : ℕ} {p before out : List ℕ} (m j : ℕ) → length p ≡ m → j < m → IsSequence p before → Raised v before out j → get_or out j 0 ≤ m
+raised_bound m j e h s w =
     let b = value_bound s.permutation j (omega arith) in
-    omega (arith, b.1, get_or-take m before j 0 h, raised_at j w)
+    omega (arith, b.1, raised_at j w)
 
 -- one entry more is used: what `append` writes is the sequence of one entry more
-pub appended_sequence : {a before out : List ℕ} (m v : ℕ) → IsArray (length a) a → length before ≡ length a → m < length a → v ≡ m + 2 - get_or a m 0
+pub appended_sequence : (a before : List ℕ) (m v : ℕ) → IsArray (length a) a → length before ≡ length a → m < length a → v ≡ m + 2 - get_or a m 0
     → IsSequence (take m a) (take m before)
-    → Raised v before out m
-    → IsSequence (take (m + 1) a) (take (m + 1) (set out m v))
-appended_sequence {a} {before} m v i z h e s w =
+    → IsSequence (take (m + 1) a) (take (m + 1) (set (map (raise v) (take m before) ++ drop m before) m v))
+appended_sequence a before m v i z h e s =
     let b = entry_bound i m h in
+    let l = length-take-le m before (omega arith) in
     let n = sequence-next (get_or a m 0) b.0 b.1 s (length-take-le m a (omega arith)) in
-    rw (raised_all m (omega arith) w, add-one, take-suc a m 0 h, e) n
+    let room : m < length (map (raise v) (take m before) ++ drop m before) = omega (arith, length-append (map (raise v) (take m before)) (drop m before), length-map (take m before) (raise v), length-drop m before) in
+    rw (v_after v (take m before) (drop m before) m l room, add-one, take-suc a m 0 h, e) n
 
 -- at last all of it is made
 pub made_all : {a out : List ℕ} → Made a out (length a) → IsSequence a out

@@ -25,11 +25,7 @@ earlier : (q : List ℕ) (i : ℕ) → higher q i + tally (λ j. not (ltb (at q 
 unfolding higher
 earlier q i = tally-not (λ j. ltb (at q i) (at q j)) (positions (i - 1)) ∙ length-range 1 (i - 1)
 
--- so no more are higher than there are
-pub higher_few : (q : List ℕ) (i : ℕ) → higher q (i + 1) ≤ i
-higher_few q i = omega (arith, earlier q (i + 1))
-
--- and an entry of a table is 1 to i
+-- so an entry of a table is 1 to i
 pub table_array : {n : ℕ} {q p : List ℕ} → length q ≡ n → IsTable q p → IsArray n p
 table_array {q = q} e t = record {
   size = t.size ∙ e;

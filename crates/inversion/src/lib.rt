@@ -2,26 +2,19 @@
 // sequence and the call back.
 #![tactic(auto)]
 
-ghost use Rattle.std.specs.Prelude.{◌≡◌, suc, ◌+◌, ◌≤◌, ◌<◌, cond, ltb, length, take};
+ghost use Rattle.std.specs.Prelude.{◌≡◌, suc, ◌+◌, ◌≤◌, ◌<◌, cond, ltb, length, take, count_by, nat_lt};
+ghost use Rattle.stirling.specs.Refusal.{refusal_in};
 ghost use Rattle.perm.specs.Array.{IsArray};
-ghost use Rattle.inversion.specs.Table.{higher, IsTable, IsSequence};
+ghost use Rattle.inversion.specs.Table.{IsTable, IsSequence};
 ghost use Rattle.inversion.specs.Calls.{FromInversions, ToInversions};
 
-// How many of the elements before index i are higher than the one there.
-fn higher_before(q: &[u8], i: usize) -> u8
-    requires { (length q.now ≤ 20) × (i < length q.now) }
-    ensures { result ≡ higher q.now (i + 1) }
+use stirling::Refusal;
+
+// How many of some elements are higher than another.
+fn count_higher(elements: &[u8], element: u8) -> usize
+    ensures { result ≡ count_by (nat_lt element) elements.now }
 {
-    let element = q[i];
-    let mut count = 0;
-    let mut j = 0;
-    while j < i {
-        if q[j] > element {
-            count += 1;
-        }
-        j += 1;
-    }
-    count
+    elements.iter().filter(|x| **x > element).count()
 }
 
 // The inversion table of the sequence q.
@@ -29,10 +22,8 @@ fn write_table(q: &[u8], out: &mut [u8])
     requires { (length q.now ≤ 20) × (length out.old ≡ length q.now) }
     ensures { IsTable q.now out.new }
 {
-    let mut i = 0;
-    while i < q.len() {
-        out[i] = higher_before(q, i) + 1;
-        i += 1;
+    for (i, entry) in out.iter_mut().enumerate() {
+        *entry = count_higher(&q[..i], q[i]) as u8 + 1;
     }
 }
 
@@ -54,10 +45,8 @@ fn append(a: &[u8], out: &mut [u8], m: usize)
     ensures { IsSequence (take (m + 1) a.now) (take (m + 1) out.new) }
 {
     let v = (m + 2) as u8 - a[m];
-    let mut at = 0;
-    while at < m {
-        out[at] = raised(out[at], v);
-        at += 1;
+    for x in out[..m].iter_mut() {
+        *x = raised(*x, v);
     }
     out[m] = v;
 }
@@ -67,41 +56,27 @@ fn write_sequence(a: &[u8], out: &mut [u8])
     requires { (length a.now ≤ 20) × (length out.old ≡ length a.now) × IsArray (length a.now) a.now }
     ensures { IsSequence a.now out.new }
 {
-    let mut m = 0;
-    while m < a.len() {
+    for m in 0..a.len() {
         append(a, out, m);
-        m += 1;
     }
 }
 
 // The sequence of the inversion table a, written to `out`. Refusals 1, 5, 6 in document 01's order; a refused call writes nothing.
-pub fn from_inversions(a: &[u8], out: &mut [u8]) -> u8
-    ensures { FromInversions a.now out.old result out.new }
+pub fn from_inversions(a: &[u8], out: &mut [u8]) -> Result<(), Refusal>
+    ensures { FromInversions a.now out.old (refusal_in result) out.new }
 {
-    let lengths = perm::check_lengths(a.len(), out.len());
-    if lengths != 0 {
-        return lengths;
-    }
-    let entries = perm::check_entries(a);
-    if entries != 0 {
-        return entries;
-    }
+    perm::check_lengths(a.len(), out.len())?;
+    perm::check_entries(a)?;
     write_sequence(a, out);
-    0
+    Ok(())
 }
 
 // The inversion table of the sequence q, written to `out`. Refusals 1, 5, 6, 7 in document 01's order; a refused call writes nothing.
-pub fn to_inversions(q: &[u8], out: &mut [u8]) -> u8
-    ensures { ToInversions q.now out.old result out.new }
+pub fn to_inversions(q: &[u8], out: &mut [u8]) -> Result<(), Refusal>
+    ensures { ToInversions q.now out.old (refusal_in result) out.new }
 {
-    let lengths = perm::check_lengths(q.len(), out.len());
-    if lengths != 0 {
-        return lengths;
-    }
-    let contents = perm::check_permutation(q);
-    if contents != 0 {
-        return contents;
-    }
+    perm::check_lengths(q.len(), out.len())?;
+    perm::check_permutation(q)?;
     write_table(q, out);
-    0
+    Ok(())
 }

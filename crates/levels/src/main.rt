@@ -3,74 +3,55 @@
 #![tactic(auto)]
 
 use explain::Level;
-use std::io;
+use print::Joined;
 use std::io::Write;
+use std::{fmt, io};
 
-// A row.
-fn print_level<W: Write>(out: &mut W, row: Level) -> io::Result<()> {
-    let letter = [row.letter];
-    print::text(out, &letter)?;
-    print::text(out, b" ")?;
-    print::number(out, row.block)?;
-    if row.backward {
-        print::text(out, b" backward ")?;
-    } else {
-        print::text(out, b" forward ")?;
-    }
-    print::number(out, row.before)
-}
+// Rows as they are printed, semicolons between.
+#[derive(Drop)]
+struct Rows<'a>(&'a [Level]);
 
-// The first rows of an array.
-fn print_levels<W: Write>(out: &mut W, rows: [Level; 20], count: usize) -> io::Result<()> {
-    if count == 0 {
-        return Ok(());
-    }
-    print_level(out, rows[0])?;
-    let mut i = 1;
-    while i < 20 {
-        if i >= count {
-            return Ok(());
+impl fmt::Display for Rows<'_> {
+    fn fmt<W: fmt::Write>(&self, f: &mut fmt::Formatter<W>) -> fmt::Result {
+        for (at, row) in self.0.iter().enumerate() {
+            if at > 0 {
+                f.write_str("; ")?;
+            }
+            let reading = if row.backward { "backward" } else { "forward" };
+            write!(
+                f,
+                "{} {} {reading} {}",
+                char::from(row.letter),
+                row.block,
+                row.before
+            )?;
         }
-        print::text(out, b"; ")?;
-        print_level(out, rows[i])?;
-        i += 1;
+        Ok(())
     }
-    Ok(())
 }
 
 // The line of a permutation.
 fn print_explained<W: Write>(out: &mut W, s: &[u8]) -> io::Result<()> {
-    let explained = explain::explain(s, s.len());
-    print::values(out, s)?;
-    print::text(out, b" | ")?;
-    print::number(out, explained.answer.k)?;
-    print::text(out, b" ")?;
-    print::number(out, explained.answer.place)?;
-    print::text(out, b" | ")?;
-    print_levels(out, explained.rows, explained.count)?;
-    print::text(out, b"\n")
-}
-
-// The lines of all permutations of a text.
-fn print_all<W: Write>(out: &mut W, text: &[u8]) -> io::Result<()> {
-    let mut at = 0;
-    while at < text.len() {
-        let n = text[at] as usize;
-        let from = at + 1;
-        if n > text.len() - from {
-            return Ok(());
-        }
-        let end = from + n;
-        print_explained(out, &text[from..end])?;
-        at = end;
+    write!(out, "{} | ", Joined(s, " "))?;
+    match explain::explain(s, s.len()) {
+        Ok(explained) => writeln!(
+            out,
+            "{} {} | {}",
+            explained.k,
+            explained.place,
+            Rows(&explained.rows[..explained.count])
+        ),
+        Err(_) => writeln!(out, "0 0 | "),
     }
-    Ok(())
 }
 
 fn main(rt: HostRuntime) -> io::Result<()> {
+    // Not shared with the other programs that read records: the size is in the array's type, and a function for all would take it, `split` and `each`.
     let mut text = [0u8; 8192];
     let size = print::read_full(&mut rt.stdin(), &mut text);
     let mut out = rt.stdout();
-    print_all(&mut out, &text[..size])?;
+    print::each_record(&text[..size], print::split_row, |s| {
+        print_explained(&mut out, s)
+    })?;
     out.flush()
 }

@@ -4,63 +4,41 @@
 
 ghost use Rattle.std.specs.Prelude.{◌≤◌};
 
+use print::Spaced;
+use rank::Stand;
 use std::io;
 use std::io::Write;
 
-// The line of the row at a place: `row` and `array` are n bytes to write it and its array to.
-fn print_row<W: Write>(
-    out: &mut W,
-    n: u64,
-    k: u64,
-    place: u64,
-    row: &mut [u8],
-    array: &mut [u8],
-) -> io::Result<()> {
-    rank::unrank(n, k, place, row);
-    perm::to_array(row, array);
-    let standing = rank::rank(row);
-    print::number(out, n)?;
-    print::text(out, b" ")?;
-    print::number(out, standing.k)?;
-    print::text(out, b" ")?;
-    print::number(out, standing.place)?;
-    print::text(out, b" |")?;
-    print::bytes(out, row)?;
-    print::text(out, b" |")?;
-    print::bytes(out, array)?;
-    print::text(out, b"\n")
-}
-
-// The same, with space for the row.
-fn print_place<W: Write>(out: &mut W, n: u64, k: u64, place: u64) -> io::Result<()>
+// The line of the row at a place.
+fn print_row<W: Write>(out: &mut W, n: u64, k: u64, place: u64) -> io::Result<()>
     requires { n ≤ 7 }
 {
-    let size = n as usize;
-    let mut row = [0u8; 7];
-    let mut array = [0u8; 7];
-    print_row(out, n, k, place, &mut row[..size], &mut array[..size])
+    let row = &mut [0u8; 7][..n as usize];
+    let array = &mut [0u8; 7][..n as usize];
+    // No call is refused: k is from 1 to n, and the place below the count. Not `unwrap`, since nothing is asked of k and the place here, so that the proof does not know it.
+    let _ = rank::unrank(n, k, place, row);
+    let _ = perm::to_array(row, array);
+    let Ok(Stand { k, place, .. }) = rank::rank(row) else {
+        return Ok(());
+    };
+    writeln!(out, "{n} {k} {place} |{} |{}", Spaced(row), Spaced(array))
 }
 
 // The rows of S(n,k).
 fn print_list<W: Write>(out: &mut W, n: u64, k: u64) -> io::Result<()>
     requires { n ≤ 7 }
 {
-    let rows = stirling::lookup(n, k);
-    let mut place = 0;
-    while place < rows {
-        print_place(out, n, k, place)?;
-        place += 1;
+    for place in 0..stirling::lookup(n, k) {
+        print_row(out, n, k, place)?;
     }
     Ok(())
 }
 
-// The lists for n.
+// The lists for n. Not by `print::each_list`: it may call what it is handed with every n, and a row here has room for seven values.
 fn print_lists<W: Write>(out: &mut W, n: u64) -> io::Result<()>
     requires { n ≤ 7 }
 {
-    let mut k = 0;
-    while k < n {
-        k += 1;
+    for k in 1..=n {
         print_list(out, n, k)?;
     }
     Ok(())
@@ -68,9 +46,7 @@ fn print_lists<W: Write>(out: &mut W, n: u64) -> io::Result<()>
 
 fn main(rt: HostRuntime) -> io::Result<()> {
     let mut out = rt.stdout();
-    let mut n = 0;
-    while n < 7 {
-        n += 1;
+    for n in 1..=7 {
         print_lists(&mut out, n)?;
     }
     out.flush()

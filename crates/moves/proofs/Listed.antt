@@ -1,17 +1,20 @@
 -- The checks of a permutation and a list of moves: which refusal they give, and what is known where they give none. Assumes nothing.
-use mathlib.Core.Path.{◌≡◌, refl, ◌∙◌}
-use Prim.Native.Nat.{ℕ, ◌%◌, ◌≤◌, ◌<◌}
+use mathlib.Core.Path.{◌≡◌, refl, sym, ap, ◌∙◌}
+use native.Mathlib.Nat.{zero-add}
+use borrow.Table.Steps.{cases}
+use Rattle.std.specs.List.{list_all}
+use Prim.Native.Nat.{ℕ, ◌+◌, ◌%◌, ◌≤◌, ◌<◌}
 use native.Mathlib.Omega.{arith}
-use mathlib.Core.Bool.{Bool, true, false}
-use mathlib.Core.List.{List}
-use lib.Dec.{eqb, ltb}
+use mathlib.Core.Bool.{Bool, true, false, not}
+use mathlib.Core.List.{List, [], ◌∷◌}
+use lib.Dec.{eqb, leb, ltb}
 use lib.ListN.{length, get_or}
-use borrow.Author.Tests.{eq-eqb, ne_eqb, ltb-false}
+use borrow.Author.Tests.{ne_eqb, ltb-false, lt-ltb, le-ltb, leb-true, leb-false}
 use Rattle.stirling.specs.Refusal.{refuse, ◌then◌}
 use Rattle.stirling.specs.Count.{check_size}
-use Rattle.stirling.proofs.Refusals.{then_stops, then_passed}
+use Rattle.stirling.proofs.Refusals.{then_passed}
 use Rattle.stirling.proofs.Counts.{size-passed}
-use Rattle.perm.specs.Lists.{some}
+use Rattle.perm.specs.Lists.{tally, some}
 use Rattle.perm.specs.Checks.{check_values, check_twice, check_permutation}
 use Rattle.perm.proofs.Tally.{none_passes}
 use Rattle.perm.proofs.Checked.{unrefused, some_outside, some_twice}
@@ -27,31 +30,30 @@ none_between : (a : Bool) (last : ℕ) → refuse a 6 then last ≡ refuse a 6 t
 none_between true last = refl
 none_between false last = refl
 
-module _ (s list : List ℕ) where
-  -- check 1 refuses
-  pub refused-size : (r : ℕ) → r ≡ check_size (length s) → (r ≡ 0 → ⊥) → r ≡ check_list s list
-  refused-size r e d = then_stops _ _ r (then_stops _ _ r (then_stops _ _ r (then_stops _ _ r e d) d) d) d
+-- a position above n is there just if not all are at most n
+some_above : (n : ℕ) (list : List ℕ) → some (ltb n) list ≡ not (list_all (λ p. leb p n) list)
+unfolding tally
+some_above n [] = refl
+some_above n (x ∷ list) =
+    cases
+    (leb x n)
+    (λ t. rw (t, le-ltb n x (leb-true x n t), zero-add) (some_above n list))
+    (λ f. rw (f, lt-ltb n x (leb-false x n f)) (lt-ltb 0 (1 + tally (ltb n) list) (omega arith)))
 
-  -- check 1 passes
-  module _ (size : check_size (length s) ≡ 0) where
-    -- a list of odd length is refused
-    pub refused-odd : (length list % 2 ≡ 0 → ⊥) → 5 ≡ check_list s list
-    refused-odd d =
-        let odd : length list % 2 ≡ 1 = omega arith in
-        rw (size, eq-eqb (length list % 2) 1 odd)
+module _ (s list : List ℕ) (size : check_size (length s) ≡ 0) (even : length list % 2 ≡ 0) {inside : Bool} (e : inside ≡ list_all (λ p. leb p (length s)) list) where
+  not-odd : eqb (length list % 2) 1 ≡ false
+  not-odd = ne_eqb (length list % 2) 1 (λ o. omega arith)
 
-    -- a list of even length is not
-    module _ (even : length list % 2 ≡ 0) where
-      not-odd : eqb (length list % 2) 1 ≡ false
-      not-odd = ne_eqb (length list % 2) 1 (λ e. omega arith)
+  above : some (ltb (length s)) list ≡ not inside
+  above = some_above (length s) list ∙ ap not (sym e)
 
-      -- then a position above n is refused
-      pub refused-positions : some (ltb (length s)) list ≡ true → 6 ≡ check_list s list
-      refused-positions e = rw (size, not-odd, e) (six_first (some_outside s) (some_twice s))
+  -- a position above n is refused
+  pub refused-positions : inside ≡ false → 6 ≡ check_list s list
+  refused-positions f = rw (size, not-odd, above, f) (six_first (some_outside s) (some_twice s))
 
-      -- and where there is none, the checks of the permutation decide
-      pub permutation-decides : some (ltb (length s)) list ≡ false → (r : ℕ) → r ≡ check_permutation s → r ≡ check_list s list
-      permutation-decides e r p = p ∙ rw (size, not-odd, e) (none_between (some_outside s) (check_twice s))
+  -- and where there is none, the checks of the permutation decide
+  pub permutation-decides : inside ≡ true → (r : ℕ) → r ≡ check_permutation s → r ≡ check_list s list
+  permutation-decides t r p = p ∙ rw (size, not-odd, above, t) (none_between (some_outside s) (check_twice s))
 
 -- where nothing is refused, n is at most 20 and each position of the list at most n
 pub list_passed : (s list : List ℕ) → check_list s list ≡ 0 → (length s ≤ 20) × ((i : ℕ) → i < length list → get_or list i 0 ≤ length s)

@@ -1,6 +1,7 @@
 -- The calls of document 02, l), for every input: the moves to a permutation, and the check of a list of moves. These are definitions; nothing is assumed.
-use Rattle.std.specs.Prelude.{ℕ, ◌*◌, ◌%◌, List, eqb, ltb, length, take}
-use Rattle.stirling.specs.Refusal.{refuse, ◌then◌, unless}
+use Rattle.std.specs.Prelude.{ℕ, ◌*◌, ◌%◌, Bool, List, eqb, ltb, length, take, Result, Ok, Err}
+use Rattle.stirling.specs.Refusal.{refuse, ◌then◌, unless, number}
+use Rattle.stirling.specs.declared.Refusal.{Refusal}
 use Rattle.stirling.specs.Count.{check_size}
 use Rattle.perm.specs.Lists.{one, some}
 use Rattle.perm.specs.Checks.{check_values, check_twice, check_permutation}
@@ -38,3 +39,13 @@ check_list s list =
 -- the refusal, and 1 for yes or 0 for no; 0 on a refusal
 abbrev pub verdict_of : List ℕ → List ℕ → Checked
 verdict_of s list = record { refusal = check_list s list; valid = unless (check_list s list) (one (leads s (pairs_in list))) 0 }
+
+-- a call's number of moves as C has it: no refusal and the number, or the refusal's number and 0
+abbrev pub answer_of : Result ℕ Refusal → Moves
+answer_of (Ok count) = record { refusal = 0; count = count }
+answer_of (Err refusal) = record { refusal = number refusal; count = 0 }
+
+-- and what a call says of a list of moves
+abbrev pub verdict_in : Result Bool Refusal → Checked
+verdict_in (Ok valid) = record { refusal = 0; valid = one valid }
+verdict_in (Err refusal) = record { refusal = number refusal; valid = 0 }

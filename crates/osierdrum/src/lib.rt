@@ -2,51 +2,31 @@
 #![tactic(auto)]
 
 ghost use Rattle.std.specs.Prelude.{◌≡◌, length};
+ghost use Rattle.stirling.specs.Count.{count_of};
 ghost use Rattle.perm.specs.Checks.{ToArray, FromArray};
 ghost use Rattle.rank.specs.Place.{Unranked, Ranked, RowsWritten};
 ghost use Rattle.explain.specs.Explain.{Explains};
 ghost use Rattle.exchanges.specs.Between.{Exchanged};
 ghost use Rattle.inversion.specs.Calls.{FromInversions, ToInversions};
 ghost use Rattle.find.specs.Find.{find_of, written_by};
-ghost use Rattle.tree.specs.Calls.{check_unrank as checkListed, written_by as writtenListed, rank_of};
+ghost use Rattle.tree.specs.Calls.{count_of as countListed, check_unrank as checkListed, written_by as writtenListed, rank_of};
 ghost use Rattle.moves.specs.Calls.{list_of, written_by as writtenMoves, verdict_of};
-ghost use Rattle.osierdrum.specs.Exports.{counted, list_counted, standing};
 
 use exchanges::Exchanges;
 use explain::{Explanation, Level};
 use find::Found;
 use moves::{Checked, Moves};
 use perm::Array;
+use rank::Standing;
+use stirling::{Counted, number_in};
 use tree::{Kind, Place};
-
-// A count, or a refusal with 0.
-#[repr(C)]
-#[derive(Drop)]
-pub struct Count {
-    pub refusal: u8,
-    pub count: u64,
-}
-
-// A permutation's number of cycles, its place and its number of fixed points, or a refusal with zeros.
-#[repr(C)]
-#[derive(Drop)]
-pub struct Rank {
-    pub refusal: u8,
-    pub k: u64,
-    pub place: u64,
-    pub fixed: u64,
-}
 
 // c(n,k). Refusals 1, 2.
 #[unsafe(no_mangle)]
-pub extern "C" fn osierdrum_count(n: u64, k: u64) -> Count
-    ensures { result ≡ counted n k }
+pub extern "C" fn osierdrum_count(n: u64, k: u64) -> Counted
+    ensures { result ≡ count_of n k }
 {
-    let answer = stirling::count(n, k);
-    Count {
-        refusal: answer.refusal,
-        count: answer.count,
-    }
+    stirling::count(n, k).into()
 }
 
 // The permutation at a place of S(n,k). Refusals 1, 2, 3, 5.
@@ -54,21 +34,15 @@ pub extern "C" fn osierdrum_count(n: u64, k: u64) -> Count
 pub extern "C" fn osierdrum_unrank(n: u64, k: u64, place: u64, out: &mut [u8]) -> u8
     ensures { Unranked n k place out.old result out.new }
 {
-    rank::unrank(n, k, place, out)
+    number_in(rank::unrank(n, k, place, out))
 }
 
 // The number of cycles of a permutation, its place and its number of fixed points. Refusals 1, 6, 7.
 #[unsafe(no_mangle)]
-pub extern "C" fn osierdrum_rank(s: &[u8]) -> Rank
-    ensures { Ranked s.now (standing result) }
+pub extern "C" fn osierdrum_rank(s: &[u8]) -> Standing
+    ensures { Ranked s.now result }
 {
-    let answer = rank::rank(s);
-    Rank {
-        refusal: answer.refusal,
-        k: answer.k,
-        place: answer.place,
-        fixed: answer.fixed,
-    }
+    rank::rank(s).into()
 }
 
 // The transposition array of a permutation, and the permutation's number of fixed points. Refusals 1, 5, 6, 7.
@@ -76,7 +50,7 @@ pub extern "C" fn osierdrum_rank(s: &[u8]) -> Rank
 pub extern "C" fn osierdrum_to_array(s: &[u8], out: &mut [u8]) -> Array
     ensures { ToArray s.now out.old result out.new }
 {
-    perm::to_array(s, out)
+    perm::to_array(s, out).into()
 }
 
 // The permutation of a transposition array. Refusals 1, 5, 6.
@@ -84,7 +58,7 @@ pub extern "C" fn osierdrum_to_array(s: &[u8], out: &mut [u8]) -> Array
 pub extern "C" fn osierdrum_from_array(a: &[u8], out: &mut [u8]) -> u8
     ensures { FromArray a.now out.old result out.new }
 {
-    perm::from_array(a, out)
+    number_in(perm::from_array(a, out))
 }
 
 // m permutations from a place on, into a buffer from byte o on. Refusals 1, 2, 3, 4, 5.
@@ -92,7 +66,7 @@ pub extern "C" fn osierdrum_from_array(a: &[u8], out: &mut [u8]) -> u8
 pub extern "C" fn osierdrum_rows(n: u64, k: u64, place: u64, m: u64, o: u64, buf: &mut [u8]) -> u8
     ensures { RowsWritten n k place m o buf.old result buf.new }
 {
-    rank::rows(n, k, place, m, o, buf)
+    number_in(rank::rows(n, k, place, m, o, buf))
 }
 
 // What made it this place: a row for each size from n down to 1, written to the front of `rows`, and the permutation's number of cycles and its place. Refusals
@@ -102,12 +76,10 @@ pub extern "C" fn osierdrum_explain(s: &[u8], rows: &mut [Level]) -> Explanation
     ensures { Explains s.now rows.old result rows.new }
 {
     let explained = explain::explain(s, rows.len());
-    let mut i = 0;
-    while i < explained.count {
-        rows[i] = explained.rows[i];
-        i += 1;
+    if let Ok(explained) = &explained {
+        rows[..explained.count].copy_from_slice(&explained.rows[..explained.count]);
     }
-    explained.answer
+    explained.into()
 }
 
 // The pairs of positions whose values are exchanged, one pair after another, to turn `from` into `to`, two bytes a pair, to the front of `out`. Refusals 1 for either,
@@ -116,7 +88,7 @@ pub extern "C" fn osierdrum_explain(s: &[u8], rows: &mut [Level]) -> Explanation
 pub extern "C" fn osierdrum_exchanges(from: &[u8], to: &[u8], out: &mut [u8]) -> Exchanges
     ensures { Exchanged from.now to.now out.old result out.new }
 {
-    exchanges::between(from, to, out)
+    exchanges::between(from, to, out).into()
 }
 
 // The sequence of an inversion table. Refusals 1, 5, 6.
@@ -124,7 +96,7 @@ pub extern "C" fn osierdrum_exchanges(from: &[u8], to: &[u8], out: &mut [u8]) ->
 pub extern "C" fn osierdrum_from_inversions(a: &[u8], out: &mut [u8]) -> u8
     ensures { FromInversions a.now out.old result out.new }
 {
-    inversion::from_inversions(a, out)
+    number_in(inversion::from_inversions(a, out))
 }
 
 // The inversion table of a sequence. Refusals 1, 5, 6, 7.
@@ -132,7 +104,7 @@ pub extern "C" fn osierdrum_from_inversions(a: &[u8], out: &mut [u8]) -> u8
 pub extern "C" fn osierdrum_to_inversions(s: &[u8], out: &mut [u8]) -> u8
     ensures { ToInversions s.now out.old result out.new }
 {
-    inversion::to_inversions(s, out)
+    number_in(inversion::to_inversions(s, out))
 }
 
 // The first permutation of S(n,k), at or after a place, that has the wished value at each position with a wish, a byte 0 leaving a position free: its place, and the
@@ -142,26 +114,15 @@ pub extern "C" fn osierdrum_find(n: u64, k: u64, place: u64, wishes: &[u8], out:
     ensures answer { result ≡ find_of n k place wishes.now (length out.old) }
     ensures row { out.new ≡ written_by n k result out.old }
 {
-    find::find(n, k, place, wishes, out)
-}
-
-// How many permutations of n of a kind there are.
-fn count_listed(kind: Kind, n: u64) -> Count
-    ensures { result ≡ list_counted kind n }
-{
-    let counted = tree::count(kind, n);
-    Count {
-        refusal: counted.refusal,
-        count: counted.count,
-    }
+    find::find(n, k, place, wishes, out).into()
 }
 
 // How many involutions of n there are, the permutations with no cycle longer than two. Refusal 1.
 #[unsafe(no_mangle)]
-pub extern "C" fn osierdrum_involution_count(n: u64) -> Count
-    ensures { result ≡ list_counted Kind.Involution n }
+pub extern "C" fn osierdrum_involution_count(n: u64) -> Counted
+    ensures { result ≡ countListed Kind.Involution n }
 {
-    count_listed(Kind::Involution, n)
+    tree::count(Kind::Involution, n).into()
 }
 
 // The involution at a place of the list of n. Refusals 1, 3, 5.
@@ -170,7 +131,7 @@ pub extern "C" fn osierdrum_involution_unrank(n: u64, place: u64, out: &mut [u8]
     ensures refusal { result ≡ checkListed Kind.Involution n place (length out.old) }
     ensures row { out.new ≡ writtenListed Kind.Involution n place result out.old }
 {
-    tree::unrank(Kind::Involution, n, place, out)
+    number_in(tree::unrank(Kind::Involution, n, place, out))
 }
 
 // The place of an involution. Refusals 1, 6, 7, 15.
@@ -178,15 +139,15 @@ pub extern "C" fn osierdrum_involution_unrank(n: u64, place: u64, out: &mut [u8]
 pub extern "C" fn osierdrum_involution_rank(s: &[u8]) -> Place
     ensures { result ≡ rank_of Kind.Involution s.now }
 {
-    tree::rank(Kind::Involution, s)
+    tree::rank(Kind::Involution, s).into()
 }
 
 // How many Bell permutations of n there are, the permutations each of whose cycles falls from its highest number to its lowest. Refusal 1.
 #[unsafe(no_mangle)]
-pub extern "C" fn osierdrum_bell_count(n: u64) -> Count
-    ensures { result ≡ list_counted Kind.Bell n }
+pub extern "C" fn osierdrum_bell_count(n: u64) -> Counted
+    ensures { result ≡ countListed Kind.Bell n }
 {
-    count_listed(Kind::Bell, n)
+    tree::count(Kind::Bell, n).into()
 }
 
 // The Bell permutation at a place of the list of n. Refusals 1, 3, 5.
@@ -195,7 +156,7 @@ pub extern "C" fn osierdrum_bell_unrank(n: u64, place: u64, out: &mut [u8]) -> u
     ensures refusal { result ≡ checkListed Kind.Bell n place (length out.old) }
     ensures row { out.new ≡ writtenListed Kind.Bell n place result out.old }
 {
-    tree::unrank(Kind::Bell, n, place, out)
+    number_in(tree::unrank(Kind::Bell, n, place, out))
 }
 
 // The place of a Bell permutation. Refusals 1, 6, 7, 16.
@@ -203,7 +164,7 @@ pub extern "C" fn osierdrum_bell_unrank(n: u64, place: u64, out: &mut [u8]) -> u
 pub extern "C" fn osierdrum_bell_rank(s: &[u8]) -> Place
     ensures { result ≡ rank_of Kind.Bell s.now }
 {
-    tree::rank(Kind::Bell, s)
+    tree::rank(Kind::Bell, s).into()
 }
 
 // The moves by a spare position, 0, from the identity to a permutation, two bytes a move, to the front of `out`, and their number. Refusals 1, 6, 7, and last 5 for a
@@ -213,7 +174,7 @@ pub extern "C" fn osierdrum_moves(s: &[u8], out: &mut [u8]) -> Moves
     ensures answer { result ≡ list_of s.now (length out.old) }
     ensures moves { out.new ≡ writtenMoves s.now result.refusal out.old }
 {
-    moves::list(s, out)
+    moves::list(s, out).into()
 }
 
 // Whether a list of moves, begun from the identity, is valid and leads to a permutation, position 0 empty: 1 for yes, 0 for no. Refusals 1, 5 for a list of odd length, 6
@@ -222,5 +183,5 @@ pub extern "C" fn osierdrum_moves(s: &[u8], out: &mut [u8]) -> Moves
 pub extern "C" fn osierdrum_check_moves(s: &[u8], moves: &[u8]) -> Checked
     ensures { result ≡ verdict_of s.now moves.now }
 {
-    moves::check(s, moves)
+    moves::check(s, moves).into()
 }

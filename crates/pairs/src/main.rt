@@ -2,43 +2,38 @@
 // whose values are exchanged to turn the one into the other. `stdout` comes from another author's generator.
 #![tactic(auto)]
 
+use print::{Joined, Pairs};
 use std::io;
 use std::io::Write;
+
+// The two permutations at the front of a text, and what stands after them.
+fn split_two(text: &[u8]) -> Option<((&[u8], &[u8]), &[u8])> {
+    let (from, rest) = print::split_row(text)?;
+    let (to, rest) = rest.split_at_checked(from.len())?;
+    Some(((from, to), rest))
+}
 
 // The line of two permutations.
 fn print_exchanges<W: Write>(out: &mut W, from: &[u8], to: &[u8]) -> io::Result<()> {
     let mut list = [0u8; 38];
-    let answer = exchanges::between(from, to, &mut list);
-    print::values(out, from)?;
-    print::text(out, b" | ")?;
-    print::values(out, to)?;
-    print::text(out, b" | ")?;
-    let written = answer.written as usize;
-    print::pairs(out, &list[..written])?;
-    print::text(out, b"\n")
-}
-
-// The lines of all permutations of a text.
-fn print_all<W: Write>(out: &mut W, text: &[u8]) -> io::Result<()> {
-    let mut at = 0;
-    while at < text.len() {
-        let n = text[at] as usize;
-        let from = at + 1;
-        if 2 * n > text.len() - from {
-            return Ok(());
-        }
-        let to = from + n;
-        let end = to + n;
-        print_exchanges(out, &text[from..to], &text[to..end])?;
-        at = end;
-    }
-    Ok(())
+    let written = exchanges::between(from, to, &mut list).map_or(0, |answer| answer.written);
+    let pairs = &list[..written as usize];
+    writeln!(
+        out,
+        "{} | {} | {}",
+        Joined(from, " "),
+        Joined(to, " "),
+        Pairs(pairs)
+    )
 }
 
 fn main(rt: HostRuntime) -> io::Result<()> {
+    // Not shared with the other programs that read records: the size is in the array's type, and a function for all would take it, `split` and `each`.
     let mut text = [0u8; 12288];
     let size = print::read_full(&mut rt.stdin(), &mut text);
     let mut out = rt.stdout();
-    print_all(&mut out, &text[..size])?;
+    print::each_record(&text[..size], split_two, |(from, to)| {
+        print_exchanges(&mut out, from, to)
+    })?;
     out.flush()
 }

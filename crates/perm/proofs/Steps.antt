@@ -11,7 +11,7 @@ use lib.Dec.{eqb}
 use lib.ListN.{length, get_or, take, drop, set, replicate, length-set, get_or-append}
 use lib.Seq.{take-length, drop-length, take-set-le, take-set-lt, take-take, drop-set-lt, drop-cons, get_or-set_same, get_or-set_other, get_or-take, length-take-le, set-get_or, set-set, set-append_left, get_or_at, take_at, take-suc, take-suc-set, take_all}
 use Rattle.perm.specs.Lists.{range}
-use Rattle.perm.specs.Permutation.{IsPermutation, at, extend, insert}
+use Rattle.perm.specs.Permutation.{IsPermutation, extend, insert}
 use Rattle.perm.specs.Array.{IsArray, IsArrayOf, product, partial}
 use Rattle.perm.proofs.Values.{in_range, injective, onto, at_suc}
 use Rattle.perm.proofs.Split.{Split, extended, inserted, split}

@@ -1,6 +1,7 @@
 -- The checks 5, 6 and 7 on slices, and what the calls between permutations and arrays give, for every input. These are definitions; nothing is assumed.
-use Rattle.std.specs.Prelude.{◌≡◌, ℕ, not, List, eqb, ltb, length}
-use Rattle.stirling.specs.Refusal.{refuse, ◌then◌, unless, within}
+use Rattle.std.specs.Prelude.{◌≡◌, ℕ, not, List, eqb, ltb, length, Result, Ok, Err}
+use Rattle.stirling.specs.Refusal.{refuse, ◌then◌, unless, within, number}
+use Rattle.stirling.specs.declared.Refusal.{Refusal}
 use Rattle.stirling.specs.Count.{check_size}
 use Rattle.perm.specs.Lists.{tally, some, positions}
 use Rattle.perm.specs.Permutation.{at, fixed}
@@ -34,6 +35,11 @@ check_to_array s size = check_size (length s) then check_lent (length s) size th
 -- array to permutation: checks 1, 5, 6
 abbrev pub check_from_array : List ℕ → ℕ → ℕ
 check_from_array p size = check_size (length p) then check_lent (length p) size then check_entries p
+
+-- a call's number of fixed points as C has it: no refusal and the number, or the refusal's number and 0
+abbrev pub answer_of : Result ℕ Refusal → Array
+answer_of (Ok fixed) = record { refusal = 0; fixed = fixed }
+answer_of (Err refusal) = record { refusal = number refusal; fixed = 0 }
 
 -- permutation to array, from s into a slice that held `before` and then holds `after`: the refusal, and the number of fixed points of s, 0 on a refusal
 pub record ToArray (s before : List ℕ) (r : Array) (after : List ℕ) : Type 0 where

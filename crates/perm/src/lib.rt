@@ -2,20 +2,15 @@
 #![tactic(auto)]
 
 ghost use Rattle.std.specs.Prelude.{◌≡◌, ℕ, ◌≤◌, ◌<◌, length, get_or};
-ghost use Rattle.stirling.specs.Refusal.{within, ◌then◌};
+ghost use Rattle.stirling.specs.Refusal.{within, ◌then◌, refusal_in};
 ghost use Rattle.stirling.specs.Count.{check_size};
 ghost use Rattle.perm.specs.Permutation.{IsPermutation, fixed};
 ghost use Rattle.perm.specs.Array.{IsArray, IsArrayOf, product};
-ghost use Rattle.perm.specs.Checks.{check_lent, check_values, check_twice, check_entries, check_permutation, ToArray, FromArray};
+ghost use Rattle.perm.specs.Checks.{check_lent, check_values, check_twice, check_entries, check_permutation, ToArray, FromArray, answer_of};
 
-// Check 5: a written slice that is not n long.
-pub const REFUSED_LENT: u8 = 5;
-// Check 6: a value not 1 to n, or an array's entry i not 1 to i.
-pub const REFUSED_VALUE: u8 = 6;
-// Check 7: a value twice.
-pub const REFUSED_TWICE: u8 = 7;
+use stirling::Refusal;
 
-// What turning a permutation into its array answers: the refusal, and how many values stand at their own position. 0 on a refusal.
+// What turning a permutation into its array answers, as C has it: how many values stand at their own position, or a refusal's number with 0.
 #[repr(C)]
 #[derive(Drop)]
 pub struct Array {
@@ -23,7 +18,22 @@ pub struct Array {
     pub fixed: u64,
 }
 
-// What copying a permutation finds: the index of each value, by the value, and how many values stand at their own position.
+impl From<Result<u64, Refusal>> for Array {
+    ghost from_gives = { λ given answer. answer ≡ answer_of given };
+
+    fn from(given: Result<u64, Refusal>) -> Array {
+        match given {
+            Ok(fixed) => Array { refusal: 0, fixed },
+            Err(refusal) => Array {
+                refusal: refusal.number(),
+                fixed: 0,
+            },
+        }
+    }
+}
+
+// What copying a permutation finds: the index of each value, by the value, and how many values stand at their own position. There is room for 20 values, since memory
+// is fixed, and values count from 1.
 #[derive(Drop)]
 struct Copied {
     index: [u8; 21],
@@ -34,97 +44,75 @@ struct Copied {
 fn in_range(v: u8, n: usize) -> bool
     ensures { result ≡ within 1 n v }
 {
-    1 <= v && (v as usize) <= n
+    (1..=n).contains(&usize::from(v))
 }
 
-// A byte as an index's type.
-fn wide(x: u8) -> usize
-    ensures { result ≡ x }
+// Check 6 on a permutation: some value is not 1 to n.
+pub fn check_values(s: &[u8]) -> Result<(), Refusal>
+    ensures { refusal_in result ≡ check_values s.now }
 {
-    x as usize
-}
-
-// Check 6 on a permutation: REFUSED_VALUE if some value is not 1 to n.
-fn check_values(s: &[u8]) -> u8
-    ensures { result ≡ check_values s.now }
-{
-    let mut i = 0;
-    while i < s.len() {
-        if !in_range(s[i], s.len()) {
-            return REFUSED_VALUE;
+    for v in s {
+        if !in_range(*v, s.len()) {
+            return Err(Refusal::Value);
         }
-        i += 1;
     }
-    0
+    Ok(())
 }
 
-// Check 7, where check 6 does not refuse: REFUSED_TWICE if some value occurs more than once. Each value has a flag that it was met.
-fn check_twice(s: &[u8]) -> u8
+// Check 7, where check 6 does not refuse: some value occurs more than once. Each value has a flag that it was met.
+fn check_twice(s: &[u8]) -> Result<(), Refusal>
     requires { (length s.now ≤ 20) × (check_values s.now ≡ 0) }
-    ensures { result ≡ check_twice s.now }
+    ensures { refusal_in result ≡ check_twice s.now }
 {
     let mut met = [false; 21];
-    let mut i = 0;
-    while i < s.len() {
-        let v = wide(s[i]);
+    for value in s {
+        let v = usize::from(*value);
         if met[v] {
-            return REFUSED_TWICE;
+            return Err(Refusal::Twice);
         }
         met[v] = true;
-        i += 1;
     }
-    0
+    Ok(())
 }
 
-// Check 6 on an array: REFUSED_VALUE if some entry i is not 1 to i.
-pub fn check_entries(a: &[u8]) -> u8
-    ensures { result ≡ check_entries a.now }
+// Check 6 on an array: some entry i is not 1 to i.
+pub fn check_entries(a: &[u8]) -> Result<(), Refusal>
+    ensures { refusal_in result ≡ check_entries a.now }
 {
-    let mut i = 0;
-    while i < a.len() {
-        if !in_range(a[i], i + 1) {
-            return REFUSED_VALUE;
+    for (i, entry) in a.iter().enumerate() {
+        if !in_range(*entry, i + 1) {
+            return Err(Refusal::Value);
         }
-        i += 1;
     }
-    0
+    Ok(())
 }
 
 // The checks 6 and 7 on a permutation, all of 6 before any of 7.
-fn check_contents(s: &[u8]) -> u8
+fn check_contents(s: &[u8]) -> Result<(), Refusal>
     requires { length s.now ≤ 20 }
-    ensures { result ≡ check_values s.now then check_twice s.now }
+    ensures { refusal_in result ≡ check_values s.now then check_twice s.now }
 {
-    let values = check_values(s);
-    if values != 0 {
-        return values;
-    }
+    check_values(s)?;
     check_twice(s)
 }
 
 // The checks of a permutation that is read: 1, 6, 7.
-pub fn check_permutation(s: &[u8]) -> u8
-    ensures { result ≡ check_permutation s.now }
+pub fn check_permutation(s: &[u8]) -> Result<(), Refusal>
+    ensures { refusal_in result ≡ check_permutation s.now }
 {
-    let size = stirling::check_size(s.len() as u64);
-    if size != 0 {
-        return size;
-    }
+    stirling::check_size(s.len() as u64)?;
     check_contents(s)
 }
 
 // The checks 1 and 5 on the lengths of the slice that is read and of the one that is lent.
-pub fn check_lengths(read: usize, lent: usize) -> u8
-    ensures { result ≡ check_size read then check_lent read lent }
+pub fn check_lengths(read: usize, lent: usize) -> Result<(), Refusal>
+    ensures { refusal_in result ≡ check_size read then check_lent read lent }
 {
-    let size = stirling::check_size(read as u64);
-    if size != 0 {
-        return size;
-    }
+    stirling::check_size(read as u64)?;
     if lent != read {
-        return REFUSED_LENT;
+        return Err(Refusal::Lent);
     }
-    0
+    Ok(())
 }
 
 // The permutation s, written to a slice of its length. Its fixed points are counted on the way, since this is where s is read.
@@ -135,15 +123,12 @@ fn copy_indexed(s: &[u8], out: &mut [u8]) -> Copied
 {
     let mut index = [0u8; 21];
     let mut fixed = 0;
-    let mut i = 0;
-    while i < s.len() {
-        let v = s[i];
-        if wide(v) == i + 1 {
+    for (i, v) in s.iter().enumerate() {
+        if usize::from(*v) == i + 1 {
             fixed += 1;
         }
-        out[i] = v;
-        index[wide(v)] = i as u8;
-        i += 1;
+        out[i] = *v;
+        index[usize::from(*v)] = i as u8;
     }
     Copied { index, fixed }
 }
@@ -157,12 +142,10 @@ fn write_array(s: &[u8], out: &mut [u8]) -> u64
 {
     let copied = copy_indexed(s, out);
     let mut index = copied.index;
-    let mut m = out.len();
-    while 0 < m {
-        let i = index[m];
-        m -= 1;
-        index[wide(out[m])] = i;
-        out[wide(i)] = out[m];
+    for m in (0..out.len()).rev() {
+        let i = index[m + 1];
+        index[usize::from(out[m])] = i;
+        out[usize::from(i)] = out[m];
         out[m] = i + 1;
     }
     copied.fixed
@@ -173,52 +156,28 @@ fn write_product(a: &[u8], out: &mut [u8])
     requires { (length a.now ≤ 20) × (length out.old ≡ length a.now) × IsArray (length a.now) a.now }
     ensures { out.new ≡ product a.now }
 {
-    let mut m = 0;
-    while m < a.len() {
-        let i = wide(a[m]) - 1;
+    for (m, entry) in a.iter().enumerate() {
+        let i = usize::from(*entry) - 1;
         out[m] = out[i];
-        m += 1;
-        out[i] = m as u8;
+        out[i] = (m + 1) as u8;
     }
 }
 
-// A refusal, with no number.
-fn no_array(refusal: u8) -> Array
-    ensures { result ≡ record { refusal = refusal; fixed = 0 } }
+// The array of the permutation s, written to `out`; gives the number of fixed points of s. Refusals 1, 5, 6, 7 in document 01's order; a refused call writes nothing.
+pub fn to_array(s: &[u8], out: &mut [u8]) -> Result<u64, Refusal>
+    ensures { ToArray s.now out.old (answer_of result) out.new }
 {
-    Array { refusal, fixed: 0 }
-}
-
-// The array of the permutation s, written to `out`, and the number of fixed points of s. Refusals 1, 5, 6, 7 in document 01's order; a refused call writes nothing.
-pub fn to_array(s: &[u8], out: &mut [u8]) -> Array
-    ensures { ToArray s.now out.old result out.new }
-{
-    let lengths = check_lengths(s.len(), out.len());
-    if lengths != 0 {
-        return no_array(lengths);
-    }
-    let contents = check_contents(s);
-    if contents != 0 {
-        return no_array(contents);
-    }
-    Array {
-        refusal: 0,
-        fixed: write_array(s, out),
-    }
+    check_lengths(s.len(), out.len())?;
+    check_contents(s)?;
+    Ok(write_array(s, out))
 }
 
 // The permutation of the array a, written to `out`. Refusals 1, 5, 6 in document 01's order; a refused call writes nothing.
-pub fn from_array(a: &[u8], out: &mut [u8]) -> u8
-    ensures { FromArray a.now out.old result out.new }
+pub fn from_array(a: &[u8], out: &mut [u8]) -> Result<(), Refusal>
+    ensures { FromArray a.now out.old (refusal_in result) out.new }
 {
-    let lengths = check_lengths(a.len(), out.len());
-    if lengths != 0 {
-        return lengths;
-    }
-    let entries = check_entries(a);
-    if entries != 0 {
-        return entries;
-    }
+    check_lengths(a.len(), out.len())?;
+    check_entries(a)?;
     write_product(a, out);
-    0
+    Ok(())
 }

@@ -6,7 +6,8 @@ use native.Mathlib.Omega.{arith}
 use mathlib.Core.Bool.{Bool, false}
 use mathlib.Core.List.{List, [], ◌∷◌, ◌++◌, append_assoc, append-nil}
 use lib.ListN.{length, get_or, take, set, replicate, length-append}
-use lib.Seq.{length-take-le, take-length, take-take, get_or-take, set_at}
+use Rattle.std.proofs.lemmas.List.{get_or_push}
+use lib.Seq.{length-take-le, take-length, take-take, get_or-take, set_at, take-append_seam}
 use Rattle.perm.specs.Array.{IsArray, product}
 use Rattle.perm.proofs.Arrays.{product_permutation}
 use Rattle.gray.specs.Order.{Row}
@@ -117,8 +118,8 @@ module _ {a : List ℕ} {k : ℕ} {first : Bool} {additions cycles : ℕ} {backw
   pub next-along : (m : ℕ) → 0 < m → Along a k first additions cycles backward m
       → Along a k first
       (additions + (named a m cycles backward).additions)
-      (named a m cycles backward).cycles
-      (named a m cycles backward).backward
+      (named a m cycles backward).below.cycles
+      (named a m cycles backward).below.backward
       (m - 1)
   next-along zero h d = absurd (omega arith)
   next-along (suc m) h d =
@@ -133,7 +134,7 @@ module _ {a : List ℕ} {k : ℕ} {first : Bool} {additions cycles : ℕ} {backw
   -- where the shorter permutation stands tells where it stands itself
   pub along-placed : (m : ℕ) → 0 < m → Along a k first additions cycles backward m
       → (r : ℕ)
-      → PlaceIn (named a m cycles backward).backward (m - 1) (named a m cycles backward).cycles (product (take (m - 1) a)) r
+      → PlaceIn (named a m cycles backward).below.backward (m - 1) (named a m cycles backward).below.cycles (product (take (m - 1) a)) r
       → PlaceIn backward m cycles (product (take m a)) ((named a m cycles backward).start + r)
   along-placed zero h d r inner = absurd (omega arith)
   along-placed (suc m) h d r inner =
@@ -150,6 +151,18 @@ module _ {a : List ℕ} {k : ℕ} {first : Bool} {additions cycles : ℕ} {backw
   all-along w d none =
       let all : additions ≡ passed (length a) k first (product a) = omega (arith, d.added) in
       record { counted = all; enough = rw all (enough (length a) k first _ (of_cycles w)) }
+
+-- of the first m entries, read from the last on: the one that is read is entry m, and those that are left are the first m - 1
+pub last-read : (a : List ℕ) (m : ℕ) {rest left : List ℕ} {x : ℕ} → m ≤ length a → rest ≡ take m a → rest ≡ left ++ (x ∷ [])
+    → (0 < m) × (left ≡ take (m - 1) a) × (x ≡ get_or a (m - 1) 0)
+last-read a m {rest} {left} {x} h e p =
+    let size : length left + 1 ≡ m = omega (arith, ap length (sym p ∙ e), length-take-le m a h, length-append left (x ∷ [])) in
+    let less : m - 1 ≡ length left = omega (arith, size) in
+    rw less (
+      omega (arith, size),
+      sym (take-append_seam left (x ∷ [])) ∙ ap (take (length left)) (sym p ∙ e) ∙ take-take (length left) m a (omega (arith, size)),
+      sym (get_or_push left x 0 (length left) refl) ∙ ap (λ (l : List ℕ). get_or l (length left) 0) (sym p ∙ e) ∙ get_or-take m a (length left) 0 (omega (arith, size)),
+    )
 
 pub none_passed : (cycles : ℕ) (backward : Bool) (s : Row) → passed 0 cycles backward s ≡ 0
 unfolding passed
@@ -209,8 +222,8 @@ pub next-done : {a : List ℕ} {k : ℕ} {first : Bool} {additions : ℕ} {path 
     → Down a k path cycles backward m
     → Down a k
     (set path (length a - m) (step_of cycles backward (named a m cycles backward)))
-    (named a m cycles backward).cycles
-    (named a m cycles backward).backward
+    (named a m cycles backward).below.cycles
+    (named a m cycles backward).below.backward
     (m - 1)
 next-done zero h w d = absurd (omega arith)
 next-done (suc m) h w d = let y : suc m - 1 ≡ m = omega arith in rw y (one-done w d)
@@ -233,41 +246,41 @@ module _ {a : List ℕ} {k : ℕ} (w : Rankable a k) (h : 0 < length a) (backwar
   pub last-occurs : Occurs (length a) k (get_or a (length a - 1) 0)
   last-occurs = along-occurs (length a) h (none_along a k backward w)
 
-  pub last-rankable : Rankable (take (length a - 1) a) last-named.cycles
+  pub last-rankable : Rankable (take (length a - 1) a) last-named.below.cycles
   last-rankable = (next-along (length a) h (none_along a k backward w)).rankable
 
   -- the blocks passed are those of the part, and those passed below
-  pub last-passed : last-named.additions + passed (length a - 1) last-named.cycles last-named.backward (product (take (length a - 1) a))
+  pub last-passed : last-named.additions + passed (length a - 1) last-named.below.cycles last-named.below.backward (product (take (length a - 1) a))
       ≡ passed (length a) k backward (product a)
   last-passed = omega (arith, (next-along (length a) h (none_along a k backward w)).added)
 
   -- and the place is the part's start, and the place below
-  pub last-placed : (r : ℕ) → PlaceIn last-named.backward (length a - 1) last-named.cycles (product (take (length a - 1) a)) r
+  pub last-placed : (r : ℕ) → PlaceIn last-named.below.backward (length a - 1) last-named.below.cycles (product (take (length a - 1) a)) r
       → PlaceIn backward (length a) k (product a) (last-named.start + r)
   last-placed r inner = rw (take-length a) at (along-placed (length a) h (none_along a k backward w) r inner)
 
 -- so what is found below gives what is sought
 pub ranked : {a : List ℕ} {k : ℕ} (w : Rankable a k) (h : 0 < length a) (backward : Bool) {p : Part} {starts additions : ℕ}
     → p ≡ named a (length a) k backward
-    → PlaceIn p.backward (length a - 1) p.cycles (product (take (length a - 1) a)) starts
-    → additions ≡ passed (length a - 1) p.cycles p.backward (product (take (length a - 1) a))
+    → PlaceIn p.below.backward (length a - 1) p.below.cycles (product (take (length a - 1) a)) starts
+    → additions ≡ passed (length a - 1) p.below.cycles p.below.backward (product (take (length a - 1) a))
     → PlaceIn backward (length a) k (product a) (p.start + starts)
     × Additions (length a) k backward (product a) (p.additions + additions)
 ranked {a} {k} w h backward {p} {starts} {additions} e place count =
     let counted : p.additions + additions ≡ passed (length a) k backward (product a) =
     rw count
     (rw e (last-passed w h backward)) in (
-      subst (λ (q : Part). PlaceIn q.backward (length a - 1) q.cycles (product (take (length a - 1) a)) starts
+      subst (λ (q : Part). PlaceIn q.below.backward (length a - 1) q.below.cycles (product (take (length a - 1) a)) starts
           → PlaceIn backward (length a) k (product a) (q.start + starts)) (sym e) (last-placed w h backward starts) place,
       record { counted = counted; enough = rw counted (enough (length a) k backward _ (of_cycles w)) },
     )
 
 -- what is found below, in the reading that the part says
-pub from-below : (a : List ℕ) (p : Part) {b : Bool} {below r : Sum} → 0 < length a → p.backward ≡ b → below ≡ r
-    → PlaceIn b (length (take (length a - 1) a)) p.cycles (product (take (length a - 1) a)) r.starts
-    × Additions (length (take (length a - 1) a)) p.cycles b (product (take (length a - 1) a)) r.additions
-    → PlaceIn p.backward (length a - 1) p.cycles (product (take (length a - 1) a)) below.starts
-    × (below.additions ≡ passed (length a - 1) p.cycles p.backward (product (take (length a - 1) a)))
+pub from-below : (a : List ℕ) (p : Part) {b : Bool} {below r : Sum} → 0 < length a → p.below.backward ≡ b → below ≡ r
+    → PlaceIn b (length (take (length a - 1) a)) p.below.cycles (product (take (length a - 1) a)) r.starts
+    × Additions (length (take (length a - 1) a)) p.below.cycles b (product (take (length a - 1) a)) r.additions
+    → PlaceIn p.below.backward (length a - 1) p.below.cycles (product (take (length a - 1) a)) below.starts
+    × (below.additions ≡ passed (length a - 1) p.below.cycles p.below.backward (product (take (length a - 1) a)))
 from-below a p h e f found =
     let size = length-take-le (length a - 1) a (omega arith) in
     (rw (e, f) (rw size at found.0), rw (e, f) (rw size at found.1.counted))

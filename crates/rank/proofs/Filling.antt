@@ -71,20 +71,20 @@ one_written : {m k place : ℕ} {backward : Bool} {p : Part} {out after : List �
     → HoldsPlace (suc m) k backward place p
     → suc m ≤ length out
     → length after ≡ length out
-    → InFront m (row_at (reading_of p.backward m p.cycles) (place - p.start)) out after
-    → InFront (suc m) (row_at (reading_of backward (suc m) k) place) out (set (set after m (get_or after (p.position - 1) 0)) (p.position - 1) (suc m))
+    → InFront m (row_at (reading_of p.below.backward m p.below.cycles) (place - p.start)) out after
+    → InFront (suc m) (row_at (reading_of backward (suc m) k) place) out (set (set after m (get_or after (p.below.position - 1) 0)) (p.below.position - 1) (suc m))
 one_written {m} {k} {place} {backward} {p} {out} {after} w lent same f =
     let y : suc m - 1 ≡ m = omega arith in
     let some : 1 ≤ suc m = omega arith in
     let range = position_in some w in
     let room : m < length after = omega arith in
-    let below : row_below (suc m) place p ≡ row_at (reading_of p.backward m p.cycles) (place - p.start) =
-    ap (λ (x : ℕ). row_at (reading_of p.backward x p.cycles) (place - p.start)) y in
+    let below : row_below (suc m) place p ≡ row_at (reading_of p.below.backward m p.below.cycles) (place - p.start) =
+    ap (λ (x : ℕ). row_at (reading_of p.below.backward x p.below.cycles) (place - p.start)) y in
     let behind : get_or after m 0 ∷ drop (suc m) after ≡ get_or out m 0 ∷ drop (suc m) out =
     sym (drop-cons after m 0 room) ∙ f.kept ∙ drop-cons out m 0 lent in
     record {
-      front = stores m p.position after range room ∙ ap (grown (suc m) p.position) (f.front ∙ sym below) ∙ sym (row_read some w);
-      kept = stays m p.position after range room ∙ ap (drop 1) behind;
+      front = stores m p.below.position after range room ∙ ap (grown (suc m) p.below.position) (f.front ∙ sym below) ∙ sym (row_read some w);
+      kept = stays m p.below.position after range room ∙ ap (drop 1) behind;
     }
 
 pub next_written : (n : ℕ) {k place : ℕ} {backward : Bool} {p : Part} {out after : List ℕ}
@@ -92,16 +92,16 @@ pub next_written : (n : ℕ) {k place : ℕ} {backward : Bool} {p : Part} {out a
     → HoldsPlace n k backward place p
     → n ≤ length out
     → length after ≡ length out
-    → InFront (n - 1) (row_at (reading_of p.backward (n - 1) p.cycles) (place - p.start)) out after
-    → InFront n (row_at (reading_of backward n k) place) out (set (set after (n - 1) (get_or after (p.position - 1) 0)) (p.position - 1) n)
+    → InFront (n - 1) (row_at (reading_of p.below.backward (n - 1) p.below.cycles) (place - p.start)) out after
+    → InFront n (row_at (reading_of backward n k) place) out (set (set after (n - 1) (get_or after (p.below.position - 1) 0)) (p.below.position - 1) n)
 next_written zero h w lent same f = absurd (omega arith)
 next_written (suc m) h w lent same f = let y : suc m - 1 ≡ m = omega arith in rw y (one_written w lent same (rw y at f))
 
 -- what stands below, in the reading that the part says
-pub below_written : (m rest : ℕ) (p : Part) (b : Bool) {out last after : List ℕ} {r additions : ℕ} → p.backward ≡ b → after ≡ last → additions ≡ r
-    → InFront m (row_at (reading_of b m p.cycles) rest) out last × Additions m p.cycles b (row_at (reading_of b m p.cycles) rest) r
-    → InFront m (row_at (reading_of p.backward m p.cycles) rest) out after
-    × (additions ≡ passed m p.cycles p.backward (row_at (reading_of p.backward m p.cycles) rest))
+pub below_written : (m rest : ℕ) (p : Part) (b : Bool) {out last after : List ℕ} {r additions : ℕ} → p.below.backward ≡ b → after ≡ last → additions ≡ r
+    → InFront m (row_at (reading_of b m p.below.cycles) rest) out last × Additions m p.below.cycles b (row_at (reading_of b m p.below.cycles) rest) r
+    → InFront m (row_at (reading_of p.below.backward m p.below.cycles) rest) out after
+    × (additions ≡ passed m p.below.cycles p.below.backward (row_at (reading_of p.below.backward m p.below.cycles) rest))
 below_written m rest p b e f g w = (rw (e, f) w.0, rw (e, g) w.1.counted)
 
 -- the additions are those below, and one for each block passed
@@ -109,7 +109,7 @@ pub next_added : (n : ℕ) {k place : ℕ} {backward : Bool} {p : Part} {additio
     → 1 ≤ n
     → HoldsPlace n k backward place p
     → place < c n k
-    → additions ≡ passed (n - 1) p.cycles p.backward (row_at (reading_of p.backward (n - 1) p.cycles) (place - p.start))
+    → additions ≡ passed (n - 1) p.below.cycles p.below.backward (row_at (reading_of p.below.backward (n - 1) p.below.cycles) (place - p.start))
     → Additions n k backward (row_at (reading_of backward n k) place) (p.additions + additions)
 next_added n {k} {place} {backward} {p} {additions} h w u e =
     let counted : p.additions + additions ≡ passed n k backward (row_at (reading_of backward n k) place) = rw e (passed_read n h w) in

@@ -13,6 +13,7 @@ pub mod Identity
 pub mod Passed
 pub mod Reading
 pub mod Filling
+pub mod Fixed
 pub mod Stands
 pub mod Descending
 pub mod RowBytes

@@ -24,28 +24,28 @@ use Rattle.rank.proofs.RowBytes.{Wide, length-reading, rows_of, count-rows, row_
 use Rattle.rank.proofs.Spaced.{keep-rows, lent-on, one_apart, flat, put_apart_lem}
 
 -- a part holds the places after one that it holds, as far as it goes
-held_on : {n k place : ℕ} {backward : Bool} {p : Part} → HoldsPlace n k backward place p → (i : ℕ) → place - p.start + i < c (n - 1) p.cycles
+held_on : {n k place : ℕ} {backward : Bool} {p : Part} → HoldsPlace n k backward place p → (i : ℕ) → place - p.start + i < c (n - 1) p.below.cycles
     → HoldsPlace n k backward (place + i) p
 held_on w i l = record { number = w.number; inside = w.inside; part = w.part; from = omega (arith, w.from); below = omega (arith, w.from) }
 
 -- so the rows of a part are those of the list below it, with n put into each
 rows-below : {n k place : ℕ} {backward : Bool} {p : Part} → 1 ≤ n → HoldsPlace n k backward place p → (m : ℕ) → place + m ≤ c n k
-    → place - p.start + m ≤ c (n - 1) p.cycles
-    → rows_of backward n k place m ≡ map (grown n p.position) (rows_of p.backward (n - 1) p.cycles (place - p.start) m)
+    → place - p.start + m ≤ c (n - 1) p.below.cycles
+    → rows_of backward n k place m ≡ map (grown n p.below.position) (rows_of p.below.backward (n - 1) p.below.cycles (place - p.start) m)
 rows-below {n} {k} {place} {backward} {p} h w m l u =
     let first = place - p.start in
-    let below = rows_of p.backward (n - 1) p.cycles first m in
-    let many : length below ≡ m = count-rows p.backward (n - 1) p.cycles first m u in
+    let below = rows_of p.below.backward (n - 1) p.below.cycles first m in
+    let many : length below ≡ m = count-rows p.below.backward (n - 1) p.below.cycles first m u in
     let here : length (rows_of backward n k place m) ≡ m = count-rows backward n k place m l in
-    ext_get_or [] _ _ (here ∙ sym many ∙ sym (length-map below (grown n p.position)))
+    ext_get_or [] _ _ (here ∙ sym many ∙ sym (length-map below (grown n p.below.position)))
     (λ i v.
     let inside : i < m = rw here at v in
     let at : place + i - p.start ≡ first + i = omega (arith, w.from) in
     row_from backward n k place m l i inside
     ∙ row_read h (held_on w i (omega arith))
-    ∙ ap (λ (x : ℕ). grown n p.position (row_at (reading_of p.backward (n - 1) p.cycles) x)) at
-    ∙ ap (grown n p.position) (sym (row_from p.backward (n - 1) p.cycles first m u i inside))
-    ∙ sym (get_d_map (grown n p.position) below i (rw many inside)))
+    ∙ ap (λ (x : ℕ). grown n p.below.position (row_at (reading_of p.below.backward (n - 1) p.below.cycles) x)) at
+    ∙ ap (grown n p.below.position) (sym (row_from p.below.backward (n - 1) p.below.cycles first m u i inside))
+    ∙ sym (get_d_map (grown n p.below.position) below i (rw many inside)))
 
 -- some rows more
 rows_more : (backward : Bool) (n k place done here : ℕ)
@@ -58,21 +58,21 @@ rows_more backward n k place done here =
 put-part : (n : ℕ) {k place : ℕ} {backward : Bool} {p : Part} (apart m : ℕ) (b mid last : List ℕ) → 1 ≤ n → n ≤ apart
     → HoldsPlace n k backward place p
     → place + m ≤ c n k
-    → place - p.start + m ≤ c (n - 1) p.cycles
+    → place - p.start + m ≤ c (n - 1) p.below.cycles
     → m * apart ≤ length b
-    → mid ≡ rows_apart apart (rows_of p.backward (n - 1) p.cycles (place - p.start) m) b
-    → last ≡ put_apart n p.position apart m mid
+    → mid ≡ rows_apart apart (rows_of p.below.backward (n - 1) p.below.cycles (place - p.start) m) b
+    → last ≡ put_apart n p.below.position apart m mid
     → last ≡ rows_apart apart (rows_of backward n k place m) b
 put-part zero apart m b mid last h a w l u room e f = absurd (omega arith)
 put-part (suc x) {k} {place} {backward} {p} apart m b mid last h a w l u room e f =
     let y : suc x - 1 ≡ x = omega arith in
-    let below = rows_of p.backward (suc x - 1) p.cycles (place - p.start) m in
-    let many : length below ≡ m = count-rows p.backward (suc x - 1) p.cycles (place - p.start) m u in
-    let wide : Wide x below = λ i l. wide_rows p.backward (suc x - 1) p.cycles (place - p.start) m u i l ∙ y in
+    let below = rows_of p.below.backward (suc x - 1) p.below.cycles (place - p.start) m in
+    let many : length below ≡ m = count-rows p.below.backward (suc x - 1) p.below.cycles (place - p.start) m u in
+    let wide : Wide x below = λ i l. wide_rows p.below.backward (suc x - 1) p.below.cycles (place - p.start) m u i l ∙ y in
     f
-    ∙ ap (put_apart (suc x) p.position apart m) e
-    ∙ ap (λ (i : ℕ). put_apart (suc x) p.position apart i (rows_apart apart below b)) (sym many)
-    ∙ put_apart_lem x p.position apart below b wide (position_in h w) a (rw many room)
+    ∙ ap (put_apart (suc x) p.below.position apart m) e
+    ∙ ap (λ (i : ℕ). put_apart (suc x) p.below.position apart i (rows_apart apart below b)) (sym many)
+    ∙ put_apart_lem x p.below.position apart below b wide (position_in h w) a (rw many room)
     ∙ ap (λ (rows : List Row). rows_apart apart rows b) (sym (rows-below h w m l u))
 
 -- a slice whose part from a byte on, of some size, came back with other bytes
@@ -96,12 +96,12 @@ length-once from size out mid h same =
 next-block : (n : ℕ) {k : ℕ} {backward : Bool} {p : Part} (place done here apart : ℕ) (b out mid last : List ℕ) → 1 ≤ n → n ≤ apart
     → HoldsPlace n k backward (place + done) p
     → place + (done + here) ≤ c n k
-    → place + done - p.start + here ≤ c (n - 1) p.cycles
+    → place + done - p.start + here ≤ c (n - 1) p.below.cycles
     → (done + here) * apart ≤ length b
     → length out ≡ length b
     → out ≡ rows_apart apart (rows_of backward n k place done) b
-    → mid ≡ rows_apart apart (rows_of p.backward (n - 1) p.cycles (place + done - p.start) here) (take (here * apart) (drop (done * apart) out))
-    → last ≡ put_apart n p.position apart here mid
+    → mid ≡ rows_apart apart (rows_of p.below.backward (n - 1) p.below.cycles (place + done - p.start) here) (take (here * apart) (drop (done * apart) out))
+    → last ≡ put_apart n p.below.position apart here mid
     → once (done * apart) (here * apart) out last ≡ rows_apart apart (rows_of backward n k place (done + here)) b
 next-block n {k} {backward} {p} place done here apart b out mid last h a w l u room same e f g =
     let xs = rows_of backward n k place done in
@@ -141,13 +141,13 @@ module _ (from size : ℕ) (out mid : List ℕ) (h : from ≤ length out) (e : l
 pub block_written : (n : ℕ) {k : ℕ} {backward : Bool} {p : Part} (place done here apart first gap : ℕ) (b out mid last : List ℕ) → first ≡ place + done - p.start → gap ≡ here * apart → 1 ≤ n → n ≤ apart
     → HoldsPlace n k backward (place + done) p
     → place + (done + here) ≤ c n k
-    → first + here ≤ c (n - 1) p.cycles
+    → first + here ≤ c (n - 1) p.below.cycles
     → (done + here) * apart ≤ length b
     → length out ≡ length b
     → out ≡ rows_apart apart (rows_of backward n k place done) b
     → length mid ≡ length (take gap (drop (done * apart) out))
-    → mid ≡ rows_apart apart (rows_of p.backward (n - 1) p.cycles first here) (take gap (drop (done * apart) out))
-    → last ≡ put_apart n p.position apart here (take gap (drop (done * apart) (once (done * apart) gap out mid)))
+    → mid ≡ rows_apart apart (rows_of p.below.backward (n - 1) p.below.cycles first here) (take gap (drop (done * apart) out))
+    → last ≡ put_apart n p.below.position apart here (take gap (drop (done * apart) (once (done * apart) gap out mid)))
     → once (done * apart) gap (once (done * apart) gap out mid) last
     ≡ rows_apart apart (rows_of backward n k place (done + here)) b
 block_written n {k} {backward} {p} place done here apart first gap b out mid last first-is gap_is h a w l u room same e size f g =
@@ -155,7 +155,7 @@ block_written n {k} {backward} {p} place done here apart first gap b out mid las
     let all : from + gap ≤ length out = omega (arith, add-mul done here apart) in
     let lent : length mid ≡ gap = size ∙ length-take-le gap (drop from out) (omega (arith, length-drop from out)) in
     let start : from ≤ length out = omega arith in
-    let put : last ≡ put_apart n p.position apart here mid = g ∙ ap (put_apart n p.position apart here) (lent_again from gap out mid start lent) in
+    let put : last ≡ put_apart n p.below.position apart here mid = g ∙ ap (put_apart n p.below.position apart here) (lent_again from gap out mid start lent) in
     back-again from gap out mid start lent last
     ∙ ap (λ (x : ℕ). once from x out last) gap_is
     ∙ next-block n place done here apart b out mid last h a w l (rw first-is at u) room same e (rw (first-is, gap_is) at f) put
@@ -198,11 +198,11 @@ part-start {n} {k} {backward} {stop} w e =
 
 pub part-size : {n k : ℕ} {backward : Bool} {stop : Stop} {p : Part} {size : ℕ} → IsStop n k backward stop → p ≡ part_of n k backward (number_read n k backward stop.number)
     → size ≡ size_of n k (block (blocks_read n k backward) stop.number)
-    → size ≡ c (n - 1) p.cycles
+    → size ≡ c (n - 1) p.below.cycles
 part-size {n} {k} {backward} {stop} w e is-size =
     is-size
     ∙ ap (size_of n k) (block_read n k backward stop.number w.inside)
-    ∙ ap (λ (q : Part). c (n - 1) q.cycles) (sym e)
+    ∙ ap (λ (q : Part). c (n - 1) q.below.cycles) (sym e)
 
 -- rows of S(n,k) that are n bytes apart stand one after another
 pub page_written : (n k place m : ℕ) (b page : List ℕ) → place + m ≤ c n k → m * n ≤ length b

@@ -129,7 +129,7 @@ one-size_passed (suc m) k backward s h w =
 
 -- the row at a place, from the part that holds the place: the row below, with n put in
 abbrev pub row_below : ℕ → ℕ → Part → Row
-row_below n place p = row_at (reading_of p.backward (n - 1) p.cycles) (place - p.start)
+row_below n place p = row_at (reading_of p.below.backward (n - 1) p.below.cycles) (place - p.start)
 
 row_of : (n k : ℕ) (backward : Bool) (j place : ℕ) → 1 ≤ n → j < length (blocks n k)
     → before n k backward (number_read n k backward j) ≤ place
@@ -145,7 +145,7 @@ added_of : (m k : ℕ) (backward : Bool) (j place : ℕ) → j < length (blocks 
     → before (suc m) k backward (number_read (suc m) k backward j) ≤ place
     → place < before (suc m) k backward (number_read (suc m) k backward j) + size_of (suc m) k (block (blocks (suc m) k) j)
     → {a : ℕ}
-    → a ≡ passed m (part_of (suc m) k backward j).cycles (part_of (suc m) k backward j).backward (row_below (suc m) place (part_of (suc m) k backward j))
+    → a ≡ passed m (part_of (suc m) k backward j).below.cycles (part_of (suc m) k backward j).below.backward (row_below (suc m) place (part_of (suc m) k backward j))
     → number_read (suc m) k backward j + a ≡ passed (suc m) k backward (row_at (reading_of backward (suc m) k) place)
 unfolding passed
 added_of m k backward j place l from below e =
@@ -181,25 +181,25 @@ module _ {n k place : ℕ} {backward : Bool} {p : Part} (h : 1 ≤ n) (w : Holds
   from = of_part (λ (q : Part). q.start ≤ place) w.from
 
   below : place < before n k backward (number_read n k backward w.number) + size_of n k (block (blocks n k) w.number)
-  below = of_part (λ (q : Part). place < q.start + c (n - 1) q.cycles) w.below
+  below = of_part (λ (q : Part). place < q.start + c (n - 1) q.below.cycles) w.below
 
-  pub below-part : place - p.start < c (n - 1) p.cycles
+  pub below-part : place - p.start < c (n - 1) p.below.cycles
   below-part = omega (arith, w.from, w.below)
 
-  pub position_in : (1 ≤ p.position) × (p.position ≤ n)
-  position_in = its-part (λ (q : Part). (1 ≤ q.position) × (q.position ≤ n)) (in_range n (block (blocks n k) w.number) h (in_place n k w.number))
+  pub position_in : (1 ≤ p.below.position) × (p.below.position ≤ n)
+  position_in = its-part (λ (q : Part). (1 ≤ q.below.position) × (q.below.position ≤ n)) (in_range n (block (blocks n k) w.number) h (in_place n k w.number))
 
-  pub row_read : row_at (reading_of backward n k) place ≡ grown n p.position (row_below n place p)
+  pub row_read : row_at (reading_of backward n k) place ≡ grown n p.below.position (row_below n place p)
   row_read =
-      its-part (λ (q : Part). row_at (reading_of backward n k) place ≡ grown n q.position (row_below n place q))
+      its-part (λ (q : Part). row_at (reading_of backward n k) place ≡ grown n q.below.position (row_below n place q))
       (row_of n k backward w.number place h w.inside from below).row
 
 pub passed_read : (n : ℕ) {k place : ℕ} {backward : Bool} {p : Part} → 1 ≤ n → HoldsPlace n k backward place p
-    → p.additions + passed (n - 1) p.cycles p.backward (row_below n place p) ≡ passed n k backward (row_at (reading_of backward n k) place)
+    → p.additions + passed (n - 1) p.below.cycles p.below.backward (row_below n place p) ≡ passed n k backward (row_at (reading_of backward n k) place)
 passed_read zero h w = absurd (omega arith)
 passed_read (suc m) {k} {place} {backward} {p} h w =
     let y : suc m - 1 ≡ m = omega arith in
-    its-part h w (λ (q : Part). q.additions + passed (suc m - 1) q.cycles q.backward (row_below (suc m) place q)
+    its-part h w (λ (q : Part). q.additions + passed (suc m - 1) q.below.cycles q.below.backward (row_below (suc m) place q)
     ≡ passed (suc m) k backward (row_at (reading_of backward (suc m) k) place))
     (added_of m k backward w.number place w.inside (from h w) (below h w)
-    (ap (λ (x : ℕ). passed x (part_of (suc m) k backward w.number).cycles (part_of (suc m) k backward w.number).backward (row_below (suc m) place (part_of (suc m) k backward w.number))) y))
+    (ap (λ (x : ℕ). passed x (part_of (suc m) k backward w.number).below.cycles (part_of (suc m) k backward w.number).below.backward (row_below (suc m) place (part_of (suc m) k backward w.number))) y))

@@ -4,8 +4,9 @@ use Prim.Native.Nat.{ℕ, zero, suc, ◌-◌, ◌≤◌}
 use native.Mathlib.Omega.{arith}
 use mathlib.Core.Bool.{false}
 use mathlib.Core.List.{List, ◌++◌}
+use Rattle.std.specs.Prelude.{Ok}
 use borrow.Author.Tests.{eq-eqb}
-use lib.ListN.{length, take, drop, replicate, length-append}
+use lib.ListN.{length, take, drop, replicate}
 use lib.Seq.{length-take-le, take_at}
 use Rattle.stirling.specs.Refusal.{◌then◌}
 use Rattle.stirling.specs.Count.{check_size}
@@ -33,7 +34,7 @@ few_values s size = size-passed (length s) size
 
 -- and the array of s is written to the front of a list z of 20 bytes
 module _ (s : List ℕ) (size : check_size (length s) ≡ 0) (z : List ℕ) (e : length z ≡ 20) where
-  pub front_lent : length (take (length s) z) ≡ length s
+  front_lent : length (take (length s) z) ≡ length s
   front_lent = length-take-le (length s) z (omega (arith, few_values s size))
 
   module _ {after : List ℕ} {r : Array} (w : ToArray s (take (length s) z) r after) where
@@ -42,12 +43,8 @@ module _ (s : List ℕ) (size : check_size (length s) ≡ 0) (z : List ℕ) (e :
     array-refusal = w.refusal ∙ rw (size, eq-eqb _ _ front_lent)
 
     -- where there is none, the array is read from there
-    module _ (passed : r.refusal ≡ 0) where
-      pub array-read : IsArrayOf s (take (length s) (after ++ drop (length s) z))
-      array-read = rw (take_at after (drop (length s) z) (length s) (w.written passed).array.size) (w.written passed)
-
-      pub array-inside : length s ≤ length (after ++ drop (length s) z)
-      array-inside = omega (arith, length-append after (drop (length s) z), (w.written passed).array.size)
+    pub array-read : r.refusal ≡ 0 → IsArrayOf s (take (length s) (after ++ drop (length s) z))
+    array-read passed = rw (take_at after (drop (length s) z) (length s) (w.written passed).array.size) (w.written passed)
 
 -- elements alike without the first of them
 pub drop-replicate {ℓ} : {A : Type ℓ} (a : A) (m n : ℕ) → n ≤ m → drop n (replicate m a) ≡ replicate (m - n) a
@@ -68,33 +65,28 @@ module _ {s a : List ℕ} (w : IsArrayOf s a) where
   unfolding fixed
   fixed-cycles e = e ∙ sym (cycles-product (rw w.array.size w.array)) ∙ ap cycles w.equal
 
--- what was read and not refused: the array of the permutation stands in front
-module _ {s : List ℕ} {r : Entries} (w : HasEntries s r) (passed : r.refusal ≡ 0) where
+-- what was read: the array of the permutation stands in front
+module _ {s : List ℕ} {r : Entries} (w : HasEntries s (Ok r)) where
   is-permutation : (length s ≤ 20) × IsPermutation (length s) s
-  is-permutation = permutation_passed s (sym w.refusal ∙ passed)
+  is-permutation = permutation_passed s (sym w.refusal)
 
   pub entries-array : IsArrayOf s (take (length s) r.array)
   entries-array =
       let a = array_of_lem is-permutation.1 in
-      rw (w.array passed, take_at (array_of (length s) s) (replicate (20 - length s) 0) (length s) a.array.size) a
-
-  pub entries-inside : length s ≤ length r.array
-  entries-inside =
-      rw (w.array passed)
-      (omega (arith, length-append (array_of (length s) s) (replicate (20 - length s) 0), (array_of_lem is-permutation.1).array.size))
+      rw (w.answer.array, take_at (array_of (length s) s) (replicate (20 - length s) 0) (length s) a.array.size) a
 
   pub entries-rankable : Rankable (take (length s) r.array) r.k
   entries-rankable =
       let a = entries-array in
       let size = a.array.size in
-      record { small = omega (arith, size, is-permutation.0); array = rw size a.array; count = ap cycles a.equal ∙ sym (w.count passed) }
+      record { small = omega (arith, size, is-permutation.0); array = rw size a.array; count = ap cycles a.equal ∙ sym w.answer.count }
 
   -- its place is that of the permutation
   pub stands : {place : ℕ} → PlaceIn false (length (take (length s) r.array)) r.k (product (take (length s) r.array)) place → StandsAt s r.k place
   stands p =
       let a = entries-array in
       record {
-        count = w.count passed;
+        count = w.answer.count;
         below = rw a.array.size at p.below;
         row = rw a.array.size at p.row ∙ a.equal;
       }

@@ -1,6 +1,8 @@
 -- A permutation followed down through the lists, size by size: document 02, b), without the letters, which crate `explain` puts to them. These are definitions;
 -- nothing is assumed.
-use Rattle.std.specs.Prelude.{◌≡◌, ℕ, zero, suc, ◌+◌, ◌-◌, ◌*◌, ◌≤◌, Bool, false, List, [], ◌∷◌, ◌++◌, length, get_or, take, replicate}
+use Rattle.std.specs.Prelude.{◌≡◌, ℕ, zero, suc, ◌+◌, ◌-◌, ◌*◌, ◌≤◌, Bool, false, List, [], ◌∷◌, ◌++◌, length, get_or, take, replicate, Result, IfOk}
+use Rattle.stirling.specs.Refusal.{refusal_in}
+use Rattle.stirling.specs.declared.Refusal.{Refusal}
 use Rattle.perm.specs.Permutation.{exchange}
 use Rattle.perm.specs.Cycle.{cycles}
 use Rattle.perm.specs.Array.{position}
@@ -54,9 +56,12 @@ pub record Additions (n k : ℕ) (backward : Bool) (s : Row) (additions : ℕ) :
 abbrev pub still : Step
 still = record { cycles = 0; backward = false; block = 0; before = 0 }
 
--- the steps of a permutation of n, in front of steps of zeros: from n and its number of cycles down, read forward at n. Checks 1, 6, 7; or zeros
-pub record Descends (s : List ℕ) (d : Descent) : Type 0 where
-  pub refusal : d.refusal ≡ check_permutation s
-  pub count : d.refusal ≡ 0 → d.k ≡ cycles s
-  pub path : d.refusal ≡ 0 → d.steps ≡ steps (length s) (cycles s) false s ++ replicate (20 - length s) still
-  pub zeros : (d.refusal ≡ 0 → ⊥) → (d.k ≡ 0) × (d.steps ≡ replicate 20 still)
+-- the steps of a permutation of n, in front of steps of zeros: from n and its number of cycles down, read forward at n
+pub record AreSteps (s : List ℕ) (d : Descent) : Type 0 where
+  pub count : d.k ≡ cycles s
+  pub path : d.steps ≡ steps (length s) (cycles s) false s ++ replicate (20 - length s) still
+
+-- they are had where checks 1, 6, 7 pass
+pub record Descends (s : List ℕ) (r : Result Descent Refusal) : Type 0 where
+  pub refusal : refusal_in r ≡ check_permutation s
+  pub answer : IfOk r (AreSteps s)

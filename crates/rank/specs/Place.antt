@@ -1,13 +1,15 @@
 -- From a place to a permutation and back, and rows into a buffer: document 01's "Other calls", for every input. These are definitions; nothing is assumed.
-use Rattle.std.specs.Prelude.{◌≡◌, ℕ, ◌+◌, ◌-◌, ◌*◌, ◌<◌, not, ◌||◌, ltb, length, take, drop}
+use Rattle.std.specs.Prelude.{◌≡◌, ℕ, ◌+◌, ◌-◌, ◌*◌, ◌<◌, not, ◌||◌, ltb, length, take, drop, Result, Ok, Err}
 use mathlib.Core.List.{List, ◌++◌, flatten}
-use Rattle.stirling.specs.Refusal.{refuse, ◌then◌, unless, within}
+use Rattle.stirling.specs.Refusal.{refuse, ◌then◌, unless, within, number}
+use Rattle.stirling.specs.declared.Refusal.{Refusal}
 use Rattle.stirling.specs.Count.{c, check_place}
 use Rattle.perm.specs.Permutation.{fixed}
 use Rattle.perm.specs.Cycle.{cycles}
 use Rattle.perm.specs.Checks.{check_lent, check_permutation}
 use Rattle.gray.specs.Order.{S}
 use Rattle.gray.specs.Listing.{row_at}
+use Rattle.rank.specs.declared.Stand.{Stand}
 use Rattle.rank.specs.declared.Standing.{Standing}
 
 -- permutation at a place: checks 1, 2, 3, 5
@@ -25,6 +27,11 @@ pub record StandsAt (s : List ℕ) (k place : ℕ) : Type 0 where
   pub count : k ≡ cycles s
   pub below : place < c (length s) k
   pub row : row_at (S (length s) k) place ≡ s
+
+-- where a permutation stands as C has it: no refusal, and its cycles, its place and its fixed points; or the refusal's number, and zeros
+abbrev pub answer_of : Result Stand Refusal → Standing
+answer_of (Ok stand) = record { refusal = 0; k = stand.k; place = stand.place; fixed = stand.fixed }
+answer_of (Err refusal) = record { refusal = number refusal; k = 0; place = 0; fixed = 0 }
 
 -- place of a permutation: checks 1, 6, 7; k and the place, or zeros; and the number of fixed points of s, 0 on a refusal
 pub record Ranked (s : List ℕ) (r : Standing) : Type 0 where

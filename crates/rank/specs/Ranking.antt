@@ -1,7 +1,8 @@
 -- How a permutation's place is found from its transposition array: its last entry names a block of S(n,k), and the entries before it a row of the
 -- shorter list that the block is made from. Only private contracts cite them. These are definitions; nothing is assumed.
-use Rattle.std.specs.Prelude.{◌≡◌, ℕ, ◌-◌, ◌≤◌, ◌<◌, Bool, cond, List, ◌++◌, eqb, length, replicate}
-use Rattle.stirling.specs.Refusal.{unless}
+use Rattle.std.specs.Prelude.{◌≡◌, ℕ, ◌-◌, ◌≤◌, ◌<◌, Bool, cond, List, ◌++◌, eqb, length, replicate, Result, IfOk}
+use Rattle.stirling.specs.Refusal.{refusal_in}
+use Rattle.stirling.specs.declared.Refusal.{Refusal}
 use Rattle.stirling.specs.Count.{c}
 use Rattle.perm.specs.Permutation.{fixed}
 use Rattle.perm.specs.Cycle.{cycles}
@@ -22,13 +23,16 @@ pub record Occurs (n k i : ℕ) : Type 0 where
   pub listed : Listed n k
   pub inside : number_of n k i < length (blocks n k)
 
--- the array of a permutation that is read, followed by zeros to 20 bytes, and its number of cycles: checks 1, 6, 7; or zeros; and its number of fixed points, 0 on a refusal
-pub record HasEntries (s : List ℕ) (r : Entries) : Type 0 where
-  pub refusal : r.refusal ≡ check_permutation s
-  pub array : r.refusal ≡ 0 → r.array ≡ array_of (length s) s ++ replicate (20 - length s) 0
-  pub count : r.refusal ≡ 0 → r.k ≡ cycles s
-  pub number : r.fixed ≡ unless r.refusal (fixed s) 0
-  pub zeros : (r.refusal ≡ 0 → ⊥) → (r.k ≡ 0) × (r.array ≡ replicate 20 0)
+-- the array of a permutation that is read, followed by zeros to 20 bytes; and its number of cycles and of fixed points
+pub record AreEntries (s : List ℕ) (r : Entries) : Type 0 where
+  pub array : r.array ≡ array_of (length s) s ++ replicate (20 - length s) 0
+  pub count : r.k ≡ cycles s
+  pub number : r.fixed ≡ fixed s
+
+-- they are had where checks 1, 6, 7 pass
+pub record HasEntries (s : List ℕ) (r : Result Entries Refusal) : Type 0 where
+  pub refusal : refusal_in r ≡ check_permutation s
+  pub answer : IfOk r (AreEntries s)
 
 -- a transposition array of at most 20 entries, whose permutation has k cycles
 pub record Rankable (a : List ℕ) (k : ℕ) : Type 0 where

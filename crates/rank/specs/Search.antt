@@ -1,5 +1,5 @@
--- The blocks of S(n,k) as a reading of the list meets them, the running start of a block, and what the search for a block finds. Private contracts cite them, and the
--- rows of document 02, b). These are definitions; nothing is assumed.
+-- The blocks of S(n,k) as a reading of the list meets them, the running start of a block, and what the search for a block finds. Private contracts cite them,
+-- those of two public functions (number_read, below_block), and the rows of document 02, b). These are definitions; nothing is assumed.
 use Rattle.std.specs.Prelude.{◌≡◌, ℕ, suc, ◌+◌, ◌-◌, ◌≤◌, ◌<◌, Bool, not, cond, List, [], ◌∷◌, reverse, length, get_or, take, drop}
 use Rattle.stirling.specs.Count.{c}
 use Rattle.perm.specs.Permutation.{exchange, extend}
@@ -9,6 +9,7 @@ use Rattle.gray.specs.Order.{Row, S, odd, rows}
 use Rattle.gray.specs.Blocks.{blocks, position_of}
 use Rattle.rank.specs.declared.Stop.{Stop}
 use Rattle.rank.specs.declared.Sizes.{Sizes}
+use Rattle.rank.specs.declared.Below.{Below}
 use Rattle.rank.specs.declared.Part.{Part}
 
 -- S(n,k) read forward or backward
@@ -81,15 +82,17 @@ pub record IsStop (n k : ℕ) (backward : Bool) (f : Stop) : Type 0 where
   pub start : f.start ≡ before n k backward f.number
   pub additions : f.additions ≡ f.number
 
+-- what stands below a block of S(n,k) in a reading: the position at which its rows have value n, and the list that it is made from, with the reading of that list
+abbrev pub below_block : ℕ → ℕ → Bool → Block → Below
+below_block n k backward b = record { position = position_of n b; cycles = cycles_of k b; backward = turned backward (backward_of b) }
+
 -- the part of a reading of S(n,k) that block j makes, in written order the j-th from 0: its start, and what stands below it
 abbrev pub part_of : ℕ → ℕ → Bool → ℕ → Part
 part_of n k backward j = record {
   block = j;
   start = before n k backward (number_read n k backward j);
   additions = number_read n k backward j;
-  position = position_of n (get_or (blocks n k) j (E 0));
-  cycles = cycles_of k (get_or (blocks n k) j (E 0));
-  backward = turned backward (backward_of (get_or (blocks n k) j (E 0)));
+  below = below_block n k backward (get_or (blocks n k) j (E 0));
 }
 
 -- the part that holds the row at a place
@@ -98,7 +101,7 @@ pub record HoldsPlace (n k : ℕ) (backward : Bool) (place : ℕ) (p : Part) : T
   pub inside : number < length (blocks n k)
   pub part : p ≡ part_of n k backward number
   pub from : p.start ≤ place
-  pub below : place < p.start + c (n - 1) p.cycles
+  pub below : place < p.start + c (n - 1) p.below.cycles
 
 -- what a reading of S(n,k) at a place asks for: the counts at hand, a place, and a slice of n or more
 pub record Readable (n k place size : ℕ) : Type 0 where

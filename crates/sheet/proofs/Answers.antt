@@ -6,10 +6,9 @@ use lib.ListN.{replicate}
 use Rattle.stirling.specs.Count.{c}
 use Rattle.perm.specs.Lists.{same}
 use Rattle.sheet.specs.Text.{SPACE, LF, ZERO, value_from, digits}
-use Rattle.sheet.specs.Asked.{leading, field, asked_line, asked_in, asked, asked_filed}
+use Rattle.sheet.specs.Asked.{Rows, Unreadable, leading, field, asked_line, asked_in, asked, asked_filed}
 use Rattle.sheet.specs.Sheet.{refused_line}
 use Rattle.sheet.specs.Rewriting.{sheet_text, rewritten_to, rewritten}
-use Rattle.sheet.specs.declared.Asked.TheVariants.{Rows, Unreadable}
 
 pub record Table : Type 0 where
   -- `0 0 0 1` is a sheet of both grammars

@@ -6,6 +6,7 @@ use mathlib.Core.Path.{◌≡◌, refl, ap, ◌∙◌}
 use mathlib.Core.List.{List, [], ◌∷◌, ◌++◌}
 use lib.ListN.{length, take, drop, get_or, length-append, length-drop}
 use lib.Seq.{length-take-le, get_or-take, get_or-drop}
+use Rattle.std.specs.Prelude.{Option, Some, None}
 use Rattle.stirling.specs.Refusal.{unless}
 use Rattle.stirling.specs.Count.{c}
 use Rattle.perm.specs.Lists.{range, positions}
@@ -18,11 +19,10 @@ use Rattle.rank.specs.Place.{check_row_count}
 use Rattle.rank.proofs.RowChecks.{row-count_passed}
 use Rattle.sheet.specs.Text.{LF, decimal}
 use Rattle.sheet.specs.Asked.{asked, asked_filed}
-use Rattle.sheet.specs.Sheet.{names, name_line, values, row_lines, refused_line, answer_to, answer}
+use Rattle.sheet.specs.Sheet.{names, name_line, values, row_lines, lines_of, refused_line, answer_to, answer}
 use Rattle.sheet.specs.Rewriting.{sheet_of, rewritten_to, rewritten}
 use Rattle.sheet.specs.Written.{CAPACITY, REWRITTEN_CAPACITY, row_line}
-use Rattle.sheet.specs.declared.Asked.{Asked}
-use Rattle.sheet.specs.declared.Asked.TheVariants.{Rows, Unreadable}
+use Rattle.sheet.specs.declared.Request.{Request}
 use Rattle.sheet.specs.declared.Grammar.TheVariants.{Filed}
 use Rattle.sheet.proofs.Lines.{rows_next}
 use Rattle.sheet.proofs.Decimal.{length_digits, length-decimal, length_two}
@@ -107,15 +107,14 @@ module _ (n k place m : ℕ) (passed : check_row_count n k place m ≡ 0) where
       )
 
 -- what is written for any asked fits
-asked_fits : (asks : Asked) → length (answer_to asks) ≤ CAPACITY
+asked_fits : (asks : Option Request) → length (answer_to asks) ≤ CAPACITY
 unfolding answer_to
-asked_fits Unreadable = omega (arith, length_refused 11)
-asked_fits (Rows n k place m) = by-check (check_row_count n k place m) refl
+asked_fits None = omega (arith, length_refused 11)
+asked_fits (Some r) = by-check (check_row_count r.n r.k r.place r.m) refl
   where
-    by-check : (r : ℕ) → check_row_count n k place m ≡ r
-        → length (unless r (name_line n ++ row_lines place (take m (drop place (S n k)))) (refused_line r)) ≤ CAPACITY
-    by-check zero e = rows_fit n k place m e
-    by-check (suc r) e = omega (arith, length_refused (suc r))
+    by-check : (i : ℕ) → check_row_count r.n r.k r.place r.m ≡ i → length (unless i (name_line r.n ++ lines_of r) (refused_line i)) ≤ CAPACITY
+    by-check zero e = rows_fit r.n r.k r.place r.m e
+    by-check (suc i) e = omega (arith, length_refused (suc i))
 
 -- the answer to any text fits
 pub answer_fits : (text : List ℕ) → length (answer text) ≤ CAPACITY
@@ -132,8 +131,8 @@ pub rewritten_fits : (text : List ℕ) → length (rewritten text) ≤ REWRITTEN
 unfolding rewritten_to
 rewritten_fits text = by-asked (asked_filed text) refl
   where
-    by-asked : (asks : Asked) → asked_filed text ≡ asks → length (rewritten_to asks) ≤ REWRITTEN_CAPACITY
-    by-asked Unreadable e = omega (arith, length_refused 11)
-    by-asked (Rows n k place m) e =
-        let s = only Filed text n k place m e in
-        length_sheet n k place m (number_below s.writes_n) (number_below s.writes_k) (number_below s.writes_place) (number_below s.writes_m)
+    by-asked : (asks : Option Request) → asked_filed text ≡ asks → length (rewritten_to asks) ≤ REWRITTEN_CAPACITY
+    by-asked None e = omega (arith, length_refused 11)
+    by-asked (Some r) e =
+        let s = only Filed text r.n r.k r.place r.m e in
+        length_sheet r.n r.k r.place r.m (number_below s.writes_n) (number_below s.writes_k) (number_below s.writes_place) (number_below s.writes_m)

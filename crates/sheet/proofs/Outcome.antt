@@ -1,5 +1,5 @@
 -- What is written for a text, by what it asks for, and what the calls that write it give. Assumes nothing.
-use Prim.Native.Nat.{ℕ, zero, suc, ◌-◌, ◌≤◌, ◌<◌}
+use Prim.Native.Nat.{ℕ, zero, suc, ◌+◌, ◌-◌, ◌≤◌, ◌<◌}
 use mathlib.Core.Bool.{Bool, true, false, not, ◌||◌}
 use native.Mathlib.Omega.{arith}
 use mathlib.Core.Logic.{⊎_elim}
@@ -8,18 +8,22 @@ use mathlib.Core.List.{List, [], ◌∷◌, ◌++◌}
 use lib.Dec.{leb, ltb}
 use lib.ListN.{length, take, drop, get_or, length-append}
 use lib.Seq.{sets-eq}
-use Rattle.stirling.specs.Refusal.{refuse, ◌then◌, unless, within}
+use Rattle.std.specs.Prelude.{Option, Some, None, Result, Err}
+use Rattle.std.specs.Option.{ok_or}
+use Rattle.stirling.specs.declared.Refusal.{Refusal}
+use Rattle.stirling.specs.declared.Refusal.TheVariants.{Text}
+use Rattle.stirling.specs.Refusal.{number, refuse, ◌then◌, unless, within}
 use Rattle.stirling.specs.Count.{c, cycles_taken, check_size, check_cycles, check_place}
 use Rattle.stirling.proofs.Refusals.{unless-refuses}
 use Rattle.gray.specs.Order.{S}
 use Rattle.rank.specs.Place.{check_row_count}
 use Rattle.sheet.specs.Text.{SPACE, LF, refused_name, digits}
-use Rattle.sheet.specs.Asked.{asked, asked_filed}
+use Rattle.sheet.specs.Asked.{Rows, Unreadable, asked, asked_filed}
 use Rattle.sheet.specs.Sheet.{name_line, row_lines, refused_line, answer_to, answer}
 use Rattle.sheet.specs.Rewriting.{sheet_of, rewritten_to, rewritten}
 use Rattle.sheet.specs.Written.{Answered, Room, Wrote}
-use Rattle.sheet.specs.declared.Asked.{Asked}
-use Rattle.sheet.specs.declared.Asked.TheVariants.{Rows, Unreadable}
+use Rattle.sheet.specs.declared.Request.{Request}
+use Rattle.sheet.specs.declared.Writer.{Writer}
 use Rattle.sheet.proofs.Tests.{below}
 use Rattle.sheet.proofs.Decimal.{decimal-small}
 
@@ -28,6 +32,13 @@ module _ (text : List ℕ) where
   pub unreadable : Unreadable ≡ asked text → refused_line 11 ≡ answer text
   unfolding answer_to
   unreadable e = rw (sym e)
+
+  -- so a text that is not read
+  pub not_read : (asks : Option Request) (e : Refusal) → ◌≡◌ {A = Result Request Refusal} (Err e) (ok_or asks Text) → asks ≡ asked text → refused_line (number e) ≡ answer text
+  not_read None e h a =
+      let is_text : e ≡ Text = cc in
+      rw is_text (unreadable a)
+  not_read (Some r) e h a = absurd (let z : ◌≡◌ {A = ℕ} 0 1 = cc in omega arith)
 
   module _ (n k place m : ℕ) (asks : Rows n k place m ≡ asked text) where
     -- numbers that are refused
@@ -69,9 +80,9 @@ pub eleven_only : (text : List ℕ) → answer text ≡ refused_line 11 → aske
 unfolding answer_to
 eleven_only text e = by-asked (asked text) e
   where
-    by-asked : (asks : Asked) → answer_to asks ≡ refused_line 11 → asks ≡ Unreadable
-    by-asked Unreadable e = refl
-    by-asked (Rows n k place m) e = absurd (not_eleven n k place m (check_row_count n k place m) (row-count_few n k place m) e)
+    by-asked : (asks : Option Request) → answer_to asks ≡ refused_line 11 → asks ≡ Unreadable
+    by-asked None e = refl
+    by-asked (Some r) e = absurd (not_eleven r.n r.k r.place r.m (check_row_count r.n r.k r.place r.m) (row-count_few r.n r.k r.place r.m) e)
 
 -- what is written for a filed sheet, and for any other text
 module _ (text : List ℕ) where
@@ -86,17 +97,19 @@ module _ (text : List ℕ) where
 -- an answer that fits in so many bytes, and a slice
 module _ {capacity : ℕ} (answer before : List ℕ) (fits : length answer ≤ capacity) where
   -- in a slice that is long enough there is room for the answer,
-  pub room : {xs : List ℕ} → xs ≡ answer → capacity ≤ length before → Room before 0 xs
-  room e h = record { fits = rw e (omega arith) }
+  pub room : {w : Writer} {xs : List ℕ} → w.at ≡ 0 → w.out.now ≡ before → xs ≡ answer → capacity ≤ length before → Room w xs
+  room z s e h = record { fits = rw (z, s, e) (omega arith) }
 
   -- and there it is written
-  pub answered : {xs : List ℕ} (r : ℕ) (after : List ℕ) → xs ≡ answer → capacity ≤ length before → Wrote before 0 xs r after
-      → Answered capacity answer before r after
-  answered {xs} r after e h w = record {
-    size = λ _. omega (arith, w.end, ap length e);
-    written = λ _. rw (sym e, w.bytes, w.end) (sets-eq xs before 0 (omega (arith, ap length e)));
-    kept = λ l. absurd (omega arith);
-  }
+  pub answered : {w v : Writer} {xs after : List ℕ} → w.at ≡ 0 → w.out.now ≡ before → xs ≡ answer → capacity ≤ length before → Wrote w xs v → after ≡ v.out.now
+      → Answered capacity answer before v.at after
+  answered {w} {v} {xs} z s e h p a =
+      let end : v.at ≡ 0 + length xs = omega (arith, p.end) in
+      record {
+        size = λ _. omega (arith, ap length e);
+        written = λ _. rw (sym e, a, p.bytes, end, s, z) (sets-eq xs before 0 (omega (arith, ap length e)));
+        kept = λ l. absurd (omega arith);
+      }
 
 -- in a shorter slice nothing is
 pub short : (capacity : ℕ) (answer before : List ℕ) → length before < capacity → Answered capacity answer before 0 before

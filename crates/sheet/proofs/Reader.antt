@@ -10,15 +10,15 @@ use lib.Dec.{leb}
 use lib.ListN.{length, take, drop, length-append, take-append-drop}
 use lib.Seq.{drop-cons, drop-append-add, drop-append_seam}
 use borrow.Author.Tests.{le-leb, eq-eqb}
+use Rattle.std.specs.Prelude.{Option}
 use Rattle.stirling.proofs.Refusals.{and-true}
 use Rattle.perm.specs.Lists.{same}
 use Rattle.perm.proofs.Same.{same_equal, same_true}
 use Rattle.sheet.specs.Text.{SPACE, LF, header, is_digit, value_from}
-use Rattle.sheet.specs.Asked.{leading, number_in, field, asked_line, asked_in}
+use Rattle.sheet.specs.Asked.{Rows, Unreadable, leading, number_in, field, asked_line, asked_in}
 use Rattle.sheet.specs.Rewriting.{sheet_text}
 use Rattle.sheet.specs.Form.{AllDigits, Writes, IsSheet}
-use Rattle.sheet.specs.declared.Asked.{Asked}
-use Rattle.sheet.specs.declared.Asked.TheVariants.{Rows, Unreadable}
+use Rattle.sheet.specs.declared.Request.{Request}
 use Rattle.sheet.specs.declared.Grammar.{Grammar}
 use Rattle.sheet.proofs.Reading.{leading_digit, leading_none, leading-split, leading-digits, number_size, holds_good, field-value, field_rest}
 
@@ -95,9 +95,15 @@ rows_read_lem e =
     omega arith
 
 -- a choice that gives rows
-pub chosen : (b : Bool) (x : Asked) {n k place m : ℕ} → cond b x Unreadable ≡ Rows n k place m → (b ≡ true) × (x ≡ Rows n k place m)
+pub chosen : (b : Bool) (x : Option Request) {n k place m : ℕ} → cond b x Unreadable ≡ Rows n k place m → (b ≡ true) × (x ≡ Rows n k place m)
 chosen true x e = (refl, e)
 chosen false x e = absurd (rows_read_lem e)
+
+-- and these are their numbers
+pub numbers : {n k place m n' k' place' m' : ℕ} → Rows n k place m ≡ Rows n' k' place' m' → (n ≡ n') × (k ≡ k') × (place ≡ place') × (m ≡ m')
+numbers {n} {k} {place} {m} {n'} {k'} {place'} {m'} e =
+    let same : ◌≡◌ {A = Request} (record { n = n; k = k; place = place; m = m }) (record { n = n'; k = k'; place = place'; m = m' }) = cc in
+    (ap (λ (r : Request). r.n) same, ap (λ (r : Request). r.k) same, ap (λ (r : Request). r.place) same, ap (λ (r : Request). r.m) same)
 
 -- a sheet of one grammar, read by another: whether its numbers are of that grammar is all that is asked
 module _ {h : Grammar} {text : List ℕ} {n k place m : ℕ} (s : IsSheet h text n k place m) where
@@ -152,15 +158,16 @@ only g text n k place m e =
     let (a-good, b-good, c-good, d-good) = four a.good b.good c.good d.good goods in
     let begins : take (length header) text ≡ header = same_true (take (length header) text) header (and-true (leb (length text) 4096) _ begun).1 in
     let end : d.rest ≡ [] = same_true d.rest [] ended in
+    let (n-is, k-is, place-is, m-is) = numbers values in
     record {
       first = leading line;
       second = leading a.rest;
       third = leading b.rest;
       fourth = leading c.rest;
-      writes_n = writes g SPACE line a-good cc;
-      writes_k = writes g SPACE a.rest b-good cc;
-      writes_place = writes g SPACE b.rest c-good cc;
-      writes_m = writes g LF c.rest d-good cc;
+      writes_n = writes g SPACE line a-good n-is;
+      writes_k = writes g SPACE a.rest b-good k-is;
+      writes_place = writes g SPACE b.rest c-good place-is;
+      writes_m = writes g LF c.rest d-good m-is;
       whole =
           sym (take-append-drop (length header) text)
           ∙ ap (λ t. t ++ line) begins

@@ -1,6 +1,6 @@
 -- The readers of a number: the digits that a text begins with, one digit at a time, and the number with the byte that ends it. Assumes nothing.
 use Prim.Native.Nat.{ℕ, zero, suc, ◌+◌, ◌-◌, ◌*◌, ◌^◌, ◌≤◌, ◌<◌}
-use native.Mathlib.Nat.{zero-add, add-zero, pow-suc, pow-le-pow_right}
+use native.Mathlib.Nat.{pow-suc, pow-le-pow_right}
 use native.Mathlib.Numerals.{add-one}
 use native.Mathlib.Omega.{arith}
 use mathlib.Core.Logic.{⊎_elim}
@@ -8,19 +8,22 @@ use mathlib.Core.Path.{◌≡◌, refl, sym, ap, ◌∙◌}
 use mathlib.Core.Bool.{Bool, true, false, cond, not, false≢true, and-true as and_yes, and-false as and_no, and-not_self}
 use mathlib.Core.List.{List, [], ◌∷◌, ◌++◌}
 use lib.Dec.{eqb, lit<}
-use lib.ListN.{length, take, drop, get_or, length-drop, drop_of_length-le, get_or-append}
-use lib.Seq.{drop-cons, take_all, take-nil, length-take-le, take-append_seam}
+use Rattle.std.specs.Char.{is_ascii_digit}
+use Rattle.std.specs.List.{take_while}
+use Rattle.std.proofs.lemmas.List.{take_rest}
+use Rattle.std.proofs.lemmas.List.Sums.{take_while-cons}
+use lib.ListN.{length, take, drop, get_or, length-append, length-take, length-drop, drop_of_length-le, get_or-append}
+use lib.Seq.{drop-cons, drop-drop, take_all, get_or-take, length-take-le}
 use borrow.Author.Tests.{eqb-true, eq-eqb, not-true}
-use Rattle.stirling.proofs.Refusals.{and-true, within-true}
+use Rattle.stirling.proofs.Refusals.{and-true, within_holds, within-true}
 use Rattle.perm.specs.Lists.{same}
 use Rattle.perm.proofs.Tally.{refuted}
 use Rattle.sheet.specs.Text.{ZERO, is_digit, value_from}
 use Rattle.sheet.specs.Asked.{leading, begins, is_filed_number, leading_zero, is_number, number_in, field}
-use Rattle.sheet.specs.Found.{taken, found}
+use Rattle.sheet.specs.Form.{AllDigits}
+use Rattle.sheet.specs.Found.{Found}
 use Rattle.sheet.specs.declared.Grammar.{Grammar}
 use Rattle.sheet.specs.declared.Grammar.TheVariants.{Current, Filed}
-use Rattle.sheet.specs.declared.Taken.{Taken}
-use Rattle.sheet.specs.declared.Found.TheVariants.{Number, Nothing}
 use Rattle.sheet.proofs.Tests.{below}
 
 -- a digit that a text begins with is the first of its leading digits
@@ -38,47 +41,20 @@ leading_empty : leading [] ≡ []
 unfolding leading
 leading_empty = refl
 
--- the leading digits of the text from index i on, up to 19 with those before
-unfoldable pub rest : ℕ → List ℕ → List ℕ
-rest i text = take (19 - i) (leading (drop i text))
+-- the digits among the first bytes of a text are the first of its leading digits
+pub first_leading : (n : ℕ) (text : List ℕ) → take (length (take_while is_ascii_digit (take n text))) text ≡ take n (leading text)
+first_leading zero text = refl
+first_leading (suc n) [] = rw leading_empty
+first_leading (suc n) (b ∷ bs) = by-digit (is_digit b) refl (first_leading n bs)
+  where
+    next : (t : Bool) → is_digit b ≡ t → take_while is_ascii_digit (b ∷ take n bs) ≡ cond t (b ∷ take_while is_ascii_digit (take n bs)) []
+    next t e = take_while-cons is_ascii_digit b (take n bs) ∙ ap (λ t. cond t (b ∷ take_while is_ascii_digit (take n bs)) []) e
 
--- what is read of a text once i digits have written the number v
-unfoldable pub taken_from : ℕ → ℕ → List ℕ → Taken
-taken_from i v text = record { count = i + length (rest i text); value = value_from v (rest i text) }
-
--- at first nothing is read
-pub taken_start : (text : List ℕ) → taken_from 0 0 text ≡ taken text
-unfolding taken_from rest
-taken_start text = rw zero-add
-
--- where no digit is left to read, reading stops
-stop : (i v : ℕ) (text : List ℕ) → rest i text ≡ [] → taken_from i v text ≡ record { count = i; value = v }
-unfolding taken_from value_from
-stop i v text e = rw (e, add-zero)
-
--- reading stops at 19 digits,
-pub taken_full : (i v : ℕ) (text : List ℕ) → i ≡ 19 → taken_from i v text ≡ record { count = i; value = v }
-unfolding rest
-taken_full i v text e = stop i v text (rw e)
-
--- at the end of the text,
-pub taken-end : (i v : ℕ) (text : List ℕ) → length text ≤ i → taken_from i v text ≡ record { count = i; value = v }
-unfolding rest leading
-taken-end i v text h = stop i v text (rw (drop_of_length-le text h) (take-nil (19 - i)))
-
--- and at a byte that is no digit
-pub taken-stop : (i v : ℕ) (text : List ℕ) → i < length text → is_digit (get_or text i 0) ≡ false → taken_from i v text ≡ record { count = i; value = v }
-unfolding rest
-taken-stop i v text h e = stop i v text (rw (drop-cons text i 0 h, leading_none (get_or text i 0) (drop (suc i) text) e) (take-nil (19 - i)))
-
--- a digit is read
-pub taken_more : (i v : ℕ) (text : List ℕ) → i < 19 → i < length text → is_digit (get_or text i 0) ≡ true
-    → taken_from i v text ≡ taken_from (i + 1) (v * 10 + (get_or text i 0 - 48)) text
-unfolding taken_from rest value_from
-taken_more i v text l h e =
-    let s : 19 - i ≡ suc (19 - suc i) = omega arith in
-    let t : i + suc (length (take (19 - suc i) (leading (drop (suc i) text)))) ≡ suc i + length (take (19 - suc i) (leading (drop (suc i) text))) = omega arith in
-    rw (drop-cons text i 0 h, leading_digit (get_or text i 0) (drop (suc i) text) e, s, add-one, t)
+    by-digit : (t : Bool) → is_digit b ≡ t → take (length (take_while is_ascii_digit (take n bs))) bs ≡ take n (leading bs)
+        → take (length (take_while is_ascii_digit (take (suc n) (b ∷ bs)))) (b ∷ bs) ≡ take (suc n) (leading (b ∷ bs))
+    by-digit true e h =
+        ap (λ t. take (length t) (b ∷ bs)) (next true e) ∙ ap (λ t. b ∷ t) h ∙ rw (leading_digit b bs e)
+    by-digit false e h = ap (λ t. take (length t) (b ∷ bs)) (next false e) ∙ rw (leading_none b bs e)
 
 -- a number of i digits and one digit more make a number of i + 1 digits, and up to 19 digits fit 64 bits with room
 pub digit_more : (i v d : ℕ) → v < 10 ^ i → d < 10 → v * 10 + d < 10 ^ (i + 1)
@@ -88,6 +64,15 @@ pub digit_fits : (i v : ℕ) → i < 19 → v < 10 ^ i → v * 10 + 10 ≤ 10 ^ 
 digit_fits i v l h =
     let all : 10 ^ suc i ≤ 10 ^ 19 = pow-le-pow_right (lit< tt) l in
     omega (arith, rw (pow-suc 10 i) at all)
+
+-- one digit more, and after the last the number is written
+pub value_next : (v i d : ℕ) (ds : List ℕ) → i < length ds → d ≡ get_or ds i 0 - 48 → value_from v (drop i ds) ≡ value_from (v * 10 + d) (drop (i + 1) ds)
+unfolding value_from
+value_next v i d ds h e = rw (drop-cons ds i 0 h, add-one i, e)
+
+pub value_all : (v i : ℕ) (ds : List ℕ) → length ds ≤ i → value_from v (drop i ds) ≡ v
+unfolding value_from
+value_all v i ds h = rw (drop_of_length-le ds h)
 
 -- a text is its leading digits and what stands after them
 pub leading-split : (text : List ℕ) → text ≡ leading text ++ drop (length (leading text)) text
@@ -116,6 +101,20 @@ digit_at text i h =
     ap (λ t. is_digit (get_or t i 0)) (leading-split text)
     ∙ ap is_digit (get_or-append (leading text) (drop (length (leading text)) text) 0 i h)
     ∙ leading-digits text i h
+
+-- what stands after the byte at an index
+drop_next : (text : List ℕ) (i b : ℕ) (rest : List ℕ) → drop i text ≡ b ∷ rest → drop (i + 1) text ≡ rest
+drop_next text i b rest e = sym (drop-drop 1 i text) ∙ ap (drop 1) e
+
+-- the first 19 of a text's leading digits are at most as many as its bytes, and digits
+pub first_inside : (text : List ℕ) → length (take 19 (leading text)) ≤ length text
+first_inside text =
+    omega (arith, length-take 19 (leading text), ap length (leading-split text) ∙ length-append (leading text) (drop (length (leading text)) text))
+
+pub each_first : (text : List ℕ) → AllDigits (take 19 (leading text))
+each_first text i h =
+    let (few, inside) : (i < 19) × (i < length (leading text)) = (omega (arith, length-take 19 (leading text)), omega (arith, length-take 19 (leading text))) in
+    rw (get_or-take 19 (leading text) i 0 few) (leading-digits text i inside)
 
 -- a text from index i on begins with a byte just where that byte is at i
 begins_at : (b : ℕ) (text : List ℕ) (i : ℕ) → i < length text → get_or text i 0 ≡ b → begins b (drop i text) ≡ true
@@ -159,6 +158,13 @@ several [] h = absurd (omega arith)
 several (d ∷ []) h = absurd (omega arith)
 several (d ∷ b ∷ ds) h = rw (and_no (eqb d ZERO)) (and_yes (eqb d ZERO))
 
+-- one digit is a number of either grammar, and of the current grammar several that begin with 0 are none
+pub one_number : (g : Grammar) (ds : List ℕ) → length ds ≡ 1 → number_in g ds ≡ true
+one_number g ds h = plain_number g ds (within_holds 1 19 (length ds) (omega arith) (omega arith)) (single ds h)
+
+pub zero_first : (ds : List ℕ) → 2 ≤ length ds → get_or ds 0 0 ≡ ZERO → is_number ds ≡ false
+zero_first ds h e = rw (several ds h, e) (and_no (is_filed_number ds))
+
 -- what a number with its end is: its digits, and the byte after them
 pub record Good (g : Grammar) (end : ℕ) (text : List ℕ) : Type 0 where
   pub right : number_in g (leading text) ≡ true
@@ -187,80 +193,60 @@ pub field_rest : (g : Grammar) (end : ℕ) (text : List ℕ) → (field g end te
 unfolding field
 field_rest g end text = refl
 
--- how many digits are taken of a text
-abbrev pub count : List ℕ → ℕ
-count text = length (take 19 (leading text))
-
--- where digits are taken and the byte that ends a number stands after them, no digit was left: they are all the digits that the text begins with
-pub all-taken : (end : ℕ) (text : List ℕ) → is_digit end ≡ false → 1 ≤ count text → count text < length text → get_or text (count text) 0 ≡ end
-    → take 19 (leading text) ≡ leading text
-all-taken end text d l h e = ⊎_elim many few (below 19 (length (leading text)))
-  where
-    many : 19 < length (leading text) → take 19 (leading text) ≡ leading text
-    many m =
-        let c : count text ≡ 19 = length-take-le 19 (leading text) (omega arith) in
-        let digit : is_digit end ≡ true = rw (sym e, c) (digit_at text 19 m) in
-        absurd (false≢true (sym d ∙ digit))
-
-    few : length (leading text) ≤ 19 → take 19 (leading text) ≡ leading text
-    few m = take_all 19 (leading text) m
-
--- so the bytes that were read are they
-pub digits-taken : (text : List ℕ) → take 19 (leading text) ≡ leading text → take (count text) text ≡ leading text
-digits-taken text t =
-    rw (ap length t) (ap (take (length (leading text))) (leading-split text) ∙ take-append_seam (leading text) (drop (length (leading text)) text))
-
--- where digits are taken that are a number, and the byte that ends them stands after them, there is such a number,
-pub found_number : (g : Grammar) (end : ℕ) (text : List ℕ) → is_digit end ≡ false → 1 ≤ count text → count text < length text → get_or text (count text) 0 ≡ end
-    → number_in g (take (count text) text) ≡ true → found g end text ≡ Number (value_from 0 (take 19 (leading text))) (count text + 1)
-found_number g end text d l h e r =
-    let t = all-taken end text d l h e in
-    let good : Good g end text = record { right = rw (digits-taken text t) at r; inside = rw t at h; ended = rw t at e } in
-    rw (good_holds g end text good, field-value g end text, t)
-
--- and elsewhere there is none
-pub found_nothing : (g : Grammar) (end : ℕ) (text : List ℕ)
-    → (1 ≤ count text → count text < length text → get_or text (count text) 0 ≡ end → number_in g (take (count text) text) ≡ true → ⊥) → found g end text ≡ Nothing
-found_nothing g end text none =
-    let never : (field g end text).good ≡ true → ⊥ = λ h. (
-    let good = holds_good g end text h in
-    let (some, few) = number_size g (leading text) good.right in
-    let t : take 19 (leading text) ≡ leading text = take_all 19 (leading text) few in
-    none (rw t some) (rw t good.inside) (rw t good.ended) (rw (digits-taken text t) good.right)
-    ) in
-    rw (refuted (field g end text).good never)
-
 -- the part of a text from an index on, as a slice has it
-abbrev pub part : List ℕ → ℕ → List ℕ
+abbrev part : List ℕ → ℕ → List ℕ
 part text i = take (length text - i) (drop i text)
 
--- what it says of a text that a number v is found in it, ended before index next
-pub record IsField (g : Grammar) (end : ℕ) (text : List ℕ) (v next : ℕ) : Type 0 where
-  pub good : (field g end text).good ≡ true
-  pub value : (field g end text).value ≡ v
-  pub rest : (field g end text).rest ≡ part text next
-  pub inside : next ≤ length text
+-- the first 19 of a text's leading digits, as the reader takes them
+module _ (g : Grammar) (end : ℕ) (text ds : List ℕ) (first : ds ≡ take 19 (leading text)) where
+  -- where the byte that ends a number stands after them, no digit was left: they are all the digits that the text begins with
+  all-taken : is_digit end ≡ false → begins end (drop (length ds) text) ≡ true → ds ≡ leading text
+  all-taken d e = ⊎_elim many few (below 19 (length (leading text)))
+    where
+      many : 19 < length (leading text) → ds ≡ leading text
+      many m =
+          let size : length ds ≡ 19 = ap length first ∙ length-take-le 19 (leading text) (omega arith) in
+          let digit : is_digit end ≡ true = rw (sym (at-begins end text (length ds) e).1, size) (digit_at text 19 m) in
+          absurd (false≢true (sym d ∙ digit))
 
--- and where one is found, it is there
-pub number_found : (g : Grammar) (end : ℕ) (text : List ℕ) {v next : ℕ} → Number v next ≡ found g end text → IsField g end text v next
-number_found g end text {v} {next} e = by-good (field g end text).good refl e
-  where
-    by-good : (b : Bool) → (field g end text).good ≡ b → Number v next ≡ cond b (Number (field g end text).value (length (leading text) + 1)) Nothing
-        → IsField g end text v next
-    by-good true good h =
-        let at : next ≡ length (leading text) + 1 = cc in
-        record {
-          good = good;
-          value = cc;
-          rest = rw (take_all (length text - next) (drop next text) (rw length-drop (omega arith)), at) (field_rest g end text);
-          inside = omega (arith, (holds_good g end text good).inside);
-        }
-    by-good false good h = absurd (let z : ◌≡◌ {A = ℕ} 0 1 = cc in omega arith)
+      few : length (leading text) ≤ 19 → ds ≡ leading text
+      few m = first ∙ take_all 19 (leading text) m
 
--- where nothing is found, there is no number with its end
-pub nothing-found : (g : Grammar) (end : ℕ) (text : List ℕ) → Nothing ≡ found g end text → (field g end text).good ≡ false
-nothing-found g end text e = refuted (field g end text).good (λ good. (
-    let h : Nothing ≡ Number (field g end text).value (length (leading text) + 1) = rw good at e in
-    let z : ◌≡◌ {A = ℕ} 0 1 = cc in
-    omega arith
-    ))
+  -- where they are a number, and that byte stands after them, there is such a number,
+  pub number_found : is_digit end ≡ false → number_in g ds ≡ true → (byte : ℕ) (rest : List ℕ) → byte ≡ end → part text (length ds) ≡ byte ∷ rest
+      → Found (field g end text) (value_from 0 ds) rest
+  unfolding field
+  number_found d right byte rest e split =
+      let after : drop (length ds) text ≡ byte ∷ rest = sym (take_rest text (length ds)) ∙ split in
+      let ended : begins end (drop (length ds) text) ≡ true = rw after (eq-eqb byte end e) in
+      let all : ds ≡ leading text = all-taken d ended in
+      record {
+        good = rw (sym all, right, ended);
+        value = rw (sym all);
+        rest = rw (sym all) (drop_next text (length ds) byte rest after);
+      }
+
+  -- and elsewhere there is none
+  nothing-found : (number_in g ds ≡ true → begins end (drop (length ds) text) ≡ true → ⊥) → (field g end text).good ≡ false
+  unfolding field
+  nothing-found none = refuted (field g end text).good (λ h. (
+      let (right, ended) = and-true (number_in g (leading text)) (begins end (drop (length (leading text)) text)) h in
+      let all : ds ≡ leading text = first ∙ take_all 19 (leading text) (number_size g (leading text) right).1 in
+      none (rw all right) (rw all ended)
+      ))
+
+  -- nothing stands after them,
+  pub no_byte : length (part text (length ds)) ≡ 0 → (field g end text).good ≡ false
+  no_byte e =
+      nothing-found
+      (λ right ended. omega (arith, (at-begins end text (length ds) ended).0, e, length-take (length text - length ds) (drop (length ds) text), length-drop (length ds) text))
+
+  -- or another byte,
+  pub other_byte : (byte : ℕ) (rest : List ℕ) → part text (length ds) ≡ byte ∷ rest → (byte ≡ end → ⊥) → (field g end text).good ≡ false
+  other_byte byte rest split other =
+      let after : drop (length ds) text ≡ byte ∷ rest = sym (take_rest text (length ds)) ∙ split in
+      nothing-found (λ right ended. other (eqb-true byte end (rw after at ended)))
+
+  -- or they are no number
+  pub no_number : number_in g ds ≡ false → (field g end text).good ≡ false
+  no_number wrong = nothing-found (λ right ended. false≢true (sym wrong ∙ right))

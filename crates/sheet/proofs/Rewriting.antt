@@ -4,14 +4,14 @@ use Prim.Native.Nat.{ℕ}
 use mathlib.Core.Path.{◌≡◌, refl, sym, ap, ◌∙◌}
 use mathlib.Core.Bool.{Bool, true, false, cond}
 use mathlib.Core.List.{List}
+use Rattle.std.specs.Prelude.{Option, Some, None}
 use Rattle.perm.specs.Lists.{same}
 use Rattle.sheet.specs.Text.{decimal, digits}
-use Rattle.sheet.specs.Asked.{asked_in, asked, asked_filed}
+use Rattle.sheet.specs.Asked.{Rows, Unreadable, asked_in, asked, asked_filed}
 use Rattle.sheet.specs.Sheet.{refused_line, answer_to, answer}
 use Rattle.sheet.specs.Rewriting.{sheet_of, rewritten_to, rewritten}
 use Rattle.sheet.specs.Form.{Writes, IsSheet, Plain}
-use Rattle.sheet.specs.declared.Asked.{Asked}
-use Rattle.sheet.specs.declared.Asked.TheVariants.{Rows, Unreadable}
+use Rattle.sheet.specs.declared.Request.{Request}
 use Rattle.sheet.specs.declared.Grammar.{Grammar}
 use Rattle.sheet.specs.declared.Grammar.TheVariants.{Current, Filed}
 use Rattle.sheet.proofs.Reading.{filed_too, number_plain}
@@ -43,9 +43,9 @@ pub asks_alike : (g : Grammar) (text : List ℕ) → asked_in g (rewritten text)
 unfolding rewritten_to
 asks_alike g text = by-asked (asked_filed text) refl
   where
-    by-asked : (asks : Asked) → asked_filed text ≡ asks → asked_in g (rewritten_to asks) ≡ asks
-    by-asked Unreadable e = refused_unreadable g
-    by-asked (Rows n k place m) e = reads g (sheet_of n k place m) n k place m (sheet_again (only Filed text n k place m e) g)
+    by-asked : (asks : Option Request) → asked_filed text ≡ asks → asked_in g (rewritten_to asks) ≡ asks
+    by-asked None e = refused_unreadable g
+    by-asked (Some r) e = reads g (sheet_of r.n r.k r.place r.m) r.n r.k r.place r.m (sheet_again (only Filed text r.n r.k r.place r.m e) g)
 
 -- so it is answered as the text was before
 pub answers_alike : (text : List ℕ) → answer (rewritten text) ≡ answer_to (asked_filed text)

@@ -1,13 +1,13 @@
 -- Writing one text after another: where each write ends, what is left to write, and that there is room. Assumes nothing.
-use Prim.Native.Nat.{ℕ, suc, ◌+◌, ◌<◌}
+use Prim.Native.Nat.{ℕ, suc, ◌+◌, ◌≤◌}
 use native.Mathlib.Nat.{add-zero}
-use native.Mathlib.Numerals.{add-one}
 use native.Mathlib.Omega.{arith}
 use mathlib.Core.Path.{◌≡◌, refl, sym, ap, ◌∙◌}
-use mathlib.Core.List.{List, [], ◌∷◌, ◌++◌}
-use lib.ListN.{length, get_or, drop, set, length-append}
-use lib.Seq.{drop-cons, sets, length-sets}
+use mathlib.Core.List.{List, [], ◌∷◌, ◌++◌, append_assoc, append-nil}
+use lib.ListN.{length, take, drop, set, length-append}
+use lib.Seq.{drop-drop, sets, sets-eq, length-sets}
 use Rattle.sheet.specs.Written.{Room, Wrote}
+use Rattle.sheet.specs.declared.Writer.{Writer}
 
 -- a run of stores, in two parts
 sets-append : (xs ys d : List ℕ) (i : ℕ) → sets d i (xs ++ ys) ≡ sets (sets d i xs) (i + length xs) ys
@@ -16,67 +16,62 @@ sets-append (x ∷ xs) ys d i =
     let e : i + suc (length xs) ≡ suc i + length xs = omega arith in
     rw e (sets-append xs ys (set d i x) (suc i))
 
+-- a copy into the part from an index on is such a run
+pub copied : (d : List ℕ) (i : ℕ) (bytes : List ℕ) → i + length bytes ≤ length d → take i d ++ (bytes ++ drop (length bytes) (drop i d)) ≡ sets d i bytes
+copied d i bytes h =
+    rw drop-drop (sym (append_assoc (take i d) bytes (drop (i + length bytes) d)) ∙ sym (sets-eq bytes d i h))
+
+-- such a run into the slice of a writer is what it writes
+pub stored : {v w : Writer} (xs : List ℕ) → w.out.ghost_name ≡ v.out.ghost_name → w.at ≡ v.at + length xs → w.out.now ≡ sets v.out.now v.at xs → Wrote v xs w
+stored {v} xs same end bytes = record { same_slice = same; end = end; size = ap length bytes ∙ length-sets v.out.now v.at xs; bytes = bytes }
+
+-- nothing is written at first
+nothing : (w : Writer) → Wrote w [] w
+nothing w = stored [] refl (sym (add-zero w.at)) refl
+
 -- two texts, one after the other, are written as one
-pub both : {d e f : List ℕ} {i j k : ℕ} (xs ys : List ℕ) → Wrote d i xs j e → Wrote e j ys k f → Wrote d i (xs ++ ys) k f
-both {d} {i = i} xs ys v w = record {
-  end = simp length-append (omega (arith, v.end, w.end));
-  bytes = w.bytes ∙ rw (v.bytes, v.end) (sym (sets-append xs ys d i));
-}
+pub both : {u v w : Writer} (xs ys : List ℕ) → Wrote u xs v → Wrote v ys w → Wrote u (xs ++ ys) w
+both {u} xs ys p q =
+    stored (xs ++ ys) (q.same_slice ∙ p.same_slice)
+    (simp length-append (omega (arith, p.end, q.end)))
+    (q.bytes ∙ rw (p.bytes, p.end) (sym (sets-append xs ys u.out.now u.at)))
 
 -- and so are three
-pub three : {d e f g : List ℕ} {i j k l : ℕ} (xs ys zs : List ℕ) → Wrote d i xs j e → Wrote e j ys k f → Wrote f k zs l g → Wrote d i (xs ++ (ys ++ zs)) l g
-three xs ys zs u v w = both xs (ys ++ zs) u (both ys zs v w)
-
--- what is written changes no length
-pub same_length : {d e : List ℕ} {i j : ℕ} {xs : List ℕ} → Wrote d i xs j e → length e ≡ length d
-same_length {d} {i = i} {xs = xs} w = ap length w.bytes ∙ length-sets d i xs
+pub three : {t u v w : Writer} (xs ys zs : List ℕ) → Wrote t xs u → Wrote u ys v → Wrote v zs w → Wrote t (xs ++ (ys ++ zs)) w
+three xs ys zs o p q = both xs (ys ++ zs) o (both ys zs p q)
 
 -- where there is room for two texts, there is room for the first,
-pub room_first : {d : List ℕ} {i : ℕ} (xs ys : List ℕ) → Room d i (xs ++ ys) → Room d i xs
+pub room_first : {w : Writer} (xs ys : List ℕ) → Room w (xs ++ ys) → Room w xs
 room_first xs ys h = record { fits = omega (arith, simp length-append at h.fits) }
 
 -- and for the second after it
-pub room_second : {d e : List ℕ} {i j : ℕ} (xs ys : List ℕ) → Room d i (xs ++ ys) → Wrote d i xs j e → Room e j ys
-room_second xs ys h w = record { fits = omega (arith, simp length-append at h.fits, w.end, same_length w) }
+pub room_second : {v w : Writer} (xs ys : List ℕ) → Room v (xs ++ ys) → Wrote v xs w → Room w ys
+room_second xs ys h p = record { fits = omega (arith, simp length-append at h.fits, p.end, p.size) }
 
--- of all that is to be written into d from index i on, `xs` is left: it is to be written into e from index j on, where there is room
-pub record Left (d : List ℕ) (i : ℕ) (all e : List ℕ) (j : ℕ) (xs : List ℕ) : Type 0 where
-  pub room : Room e j xs
-  pub rest : Wrote e j xs (i + length all) (sets d i all)
+-- of all that a writer u is to write `rest` is left, where it is w: the first part is written, and there is room for the rest
+pub record Left (u : Writer) (all : List ℕ) (w : Writer) (rest : List ℕ) : Type 0 where
+  pub first : List ℕ
+  pub whole : all ≡ first ++ rest
+  pub wrote : Wrote u first w
+  pub room : Room w rest
 
 -- at first all is left
-pub left_all : {d : List ℕ} {i : ℕ} {all : List ℕ} → Room d i all → Left d i all d i all
-left_all h = record { room = h; rest = record { end = refl; bytes = refl } }
+pub left_all : {w : Writer} {all : List ℕ} → Room w all → Left w all w all
+left_all {w} h = record { first = []; whole = refl; wrote = nothing w; room = h }
 
 -- where two texts are left, there is room for the first,
-pub left_room : {d e : List ℕ} {i j : ℕ} {all zs : List ℕ} (xs ys : List ℕ) → zs ≡ xs ++ ys → Left d i all e j zs → Room e j xs
+pub left_room : {u w : Writer} {all zs : List ℕ} (xs ys : List ℕ) → zs ≡ xs ++ ys → Left u all w zs → Room w xs
 left_room xs ys z l = room_first xs ys (rw z at l.room)
 
 -- and after it the second is left
-pub left-next : {d e f : List ℕ} {i j k : ℕ} {all zs : List ℕ} (xs ys : List ℕ) → zs ≡ xs ++ ys → Left d i all e j zs → Wrote e j xs k f
-    → Left d i all f k ys
-left-next {e = e} {j = j} xs ys z l w = record {
-  room = room_second xs ys (rw z at l.room) w;
-  rest = record {
-    end = omega (arith, w.end, l.rest.end, ap length z ∙ length-append xs ys);
-    bytes = l.rest.bytes ∙ rw (w.bytes, w.end, z) (sets-append xs ys e j);
-  };
+pub left-next : {u v w : Writer} {all zs : List ℕ} (xs ys : List ℕ) → zs ≡ xs ++ ys → Left u all v zs → Wrote v xs w → Left u all w ys
+left-next xs ys z l p = record {
+  first = l.first ++ xs;
+  whole = l.whole ∙ ap (λ t. l.first ++ t) z ∙ sym (append_assoc l.first xs ys);
+  wrote = both l.first xs l.wrote p;
+  room = room_second xs ys (rw z at l.room) p;
 }
 
 -- where nothing is left, all is written
-pub left_none : {d e : List ℕ} {i j : ℕ} {all xs : List ℕ} → xs ≡ [] → Left d i all e j xs → Wrote d i all j e
-left_none {e = e} {j = j} n l = record {
-  end = omega (arith, l.rest.end, ap length n);
-  bytes = sym (l.rest.bytes ∙ ap (sets e j) n);
-}
-
--- meanwhile no length changes
-pub left-length : {d e : List ℕ} {i j : ℕ} {all xs : List ℕ} → Left d i all e j xs → length e ≡ length d
-left-length {d} {i = i} {all = all} l = sym (same_length l.rest) ∙ length-sets d i all
-
--- one byte is stored, the next of those that are left
-pub left_byte : {d e : List ℕ} {i : ℕ} {all : List ℕ} (bytes : List ℕ) (j n : ℕ) → n < length bytes → Left d i all e (j + n) (drop n bytes)
-    → Left d i all (set e (j + n) (get_or bytes n 0)) (j + (n + 1)) (drop (n + 1) bytes)
-left_byte bytes j n h l =
-    let next : j + (n + 1) ≡ j + n + 1 = omega arith in
-    rw (next, add-one n) (left-next (get_or bytes n 0 ∷ []) (drop (suc n) bytes) (drop-cons bytes n 0 h) l (record { end = refl; bytes = refl }))
+pub left_none : {u w : Writer} {all xs : List ℕ} → xs ≡ [] → Left u all w xs → Wrote u all w
+left_none n l = rw (l.whole, n, append-nil) l.wrote

@@ -1,13 +1,19 @@
 -- What a sheet's text asks for: document 01's "The sheet", with document 02's number, and as filed sheets are read, for every text of any length. These are
 -- definitions; nothing is assumed.
-use Rattle.std.specs.Prelude.{ℕ, ◌+◌, Bool, false, cond, not, ◌&&◌, List, [], ◌∷◌, eqb, leb, length, take, drop}
+use Rattle.std.specs.Prelude.{ℕ, ◌+◌, Bool, false, cond, not, ◌&&◌, Option, None, Some, List, [], ◌∷◌, eqb, leb, length, take, drop}
 use Rattle.stirling.specs.Refusal.{within}
 use Rattle.perm.specs.Lists.{same}
 use Rattle.sheet.specs.Text.{SPACE, LF, ZERO, header, is_digit, value_from}
-use Rattle.sheet.specs.declared.Asked.{Asked}
-use Rattle.sheet.specs.declared.Asked.TheVariants.{Rows, Unreadable}
+use Rattle.sheet.specs.declared.Request.{Request}
 use Rattle.sheet.specs.declared.Grammar.{Grammar}
 use Rattle.sheet.specs.declared.Grammar.TheVariants.{Current, Filed}
+
+-- what a text asks for: m rows of S(n,k) from a place on; or that it is no sheet
+abbrev pub Rows : (n k place m : ℕ) → Option Request
+Rows n k place m = Some (record { n = n; k = k; place = place; m = m })
+
+abbrev pub Unreadable : Option Request
+Unreadable = None
 
 -- the digits that a text begins with
 unfoldable pub leading : List ℕ → List ℕ
@@ -50,7 +56,7 @@ field g end text = record {
 }
 
 -- the line after the header: four numbers, single spaces between, ended by LF, nothing after
-unfoldable pub asked_line : Grammar → List ℕ → Asked
+unfoldable pub asked_line : Grammar → List ℕ → Option Request
 asked_line g line =
     let n = field g SPACE line in
     let k = field g SPACE n.rest in
@@ -61,16 +67,16 @@ asked_line g line =
     Unreadable
 
 -- the whole text: at most 4,096 bytes, the header, then that line
-unfoldable pub asked_in : Grammar → List ℕ → Asked
+unfoldable pub asked_in : Grammar → List ℕ → Option Request
 asked_in g text =
     cond (leb (length text) 4096 && same (take (length header) text) header)
     (asked_line g (drop (length header) text))
     Unreadable
 
 -- what a sheet asks for
-abbrev pub asked : List ℕ → Asked
+abbrev pub asked : List ℕ → Option Request
 asked text = asked_in Current text
 
 -- what a filed sheet asks for, read as before document 02, m)
-abbrev pub asked_filed : List ℕ → Asked
+abbrev pub asked_filed : List ℕ → Option Request
 asked_filed text = asked_in Filed text

@@ -1,10 +1,14 @@
 -- What the calls `answer` and `rewrite` give, for every text and every lent slice, and what the writers inside them give. These are definitions; nothing is
 -- assumed.
-use Rattle.std.specs.Prelude.{◌≡◌, ℕ, ◌+◌, ◌*◌, ◌≤◌, ◌<◌, List, [], ◌∷◌, ◌++◌, length, drop}
+use Rattle.std.specs.Prelude.{◌≡◌, ℕ, ◌+◌, ◌*◌, ◌≤◌, ◌<◌, List, [], ◌∷◌, ◌++◌, length, drop, Result, Ok, Err}
 use Rattle.std.proofs.lemmas.List.Edits.{sets}
+use Rattle.stirling.specs.declared.Refusal.{Refusal}
+use Rattle.stirling.specs.Refusal.{number}
 use Rattle.gray.specs.Order.{Row}
 use Rattle.sheet.specs.Text.{LF, decimal}
-use Rattle.sheet.specs.Sheet.{values}
+use Rattle.sheet.specs.Sheet.{name_line, values, lines_of, refused_line}
+use Rattle.sheet.specs.declared.Request.{Request}
+use Rattle.sheet.specs.declared.Writer.{Writer}
 
 -- a slice of so many bytes suffices for the answer to any text (the law `answer_fits`, proofs/Capacity.antt): a line of names of at most
 -- 5 + 20×7 + 1 bytes, and at most 1,000 rows of at most 20 + 20×3 + 1 bytes
@@ -22,14 +26,21 @@ pub record Answered (capacity : ℕ) (answer before : List ℕ) (r : ℕ) (after
   pub written : capacity ≤ length before → after ≡ answer ++ drop r before
   pub kept : length before < capacity → (r ≡ 0) × (after ≡ before)
 
--- there is room for `new` from index `at` on in a slice that holds `before`
-pub record Room (before : List ℕ) (at : ℕ) (new : List ℕ) : Type 0 where
-  pub fits : at + length new ≤ length before
+-- there is room for `new` where a writer goes on
+pub record Room (w : Writer) (new : List ℕ) : Type 0 where
+  pub fits : w.at + length new ≤ length w.out.now
 
--- `new` is written from index `at` on into a slice that held `before` and then holds `after`; r is the index after it
-pub record Wrote (before : List ℕ) (at : ℕ) (new : List ℕ) (r : ℕ) (after : List ℕ) : Type 0 where
-  pub end : r ≡ at + length new
-  pub bytes : after ≡ sets before at new
+-- a writer w has written `new`, and is v then: it has the slice that it had, holds `new` there, and goes on after it
+pub record Wrote (w : Writer) (new : List ℕ) (v : Writer) : Type 0 where
+  pub same_slice : v.out.ghost_name ≡ w.out.ghost_name
+  pub end : v.at ≡ w.at + length new
+  pub size : length v.out.now ≡ length w.out.now
+  pub bytes : v.out.now ≡ sets w.out.now w.at new
+
+-- what is written for a text that is served, or refused
+abbrev pub written_for : Result Request Refusal → List ℕ
+written_for (Ok request) = name_line request.n ++ lines_of request
+written_for (Err refusal) = refused_line (number refusal)
 
 -- the line of one row: its place and its values
 abbrev pub row_line : ℕ → Row → List ℕ

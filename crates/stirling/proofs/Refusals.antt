@@ -7,7 +7,12 @@ use mathlib.Core.Path.{◌≡◌, ◌∙◌, refl, sym}
 use mathlib.Core.Bool.{Bool, true, false, ◌&&◌, false≢true}
 use lib.Dec.{leb}
 use borrow.Author.Tests.{leb-true, le-leb, lt-leb}
-use Rattle.stirling.specs.Refusal.{refuse, ◌then◌, unless, within}
+use Rattle.stirling.specs.Refusal.{refuse, ◌then◌, unless, within, number}
+use Rattle.stirling.specs.declared.Refusal.{Refusal}
+
+-- every refusal has a number, and 0 is none
+pub number_some : (refusal : Refusal) → number refusal ≡ 0 → ⊥
+number_some refusal e = grind arith
 
 -- a check refuses where its condition applies
 pub refuse_applies : (b : Bool) (r : ℕ) → b ≡ true → refuse b r ≡ r

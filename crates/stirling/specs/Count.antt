@@ -1,6 +1,7 @@
 -- Document 01's *count* c(n,k), and the checks 1, 2 and 3 on numbers, which rest on it. These are definitions; nothing is assumed.
-use Rattle.std.specs.Prelude.{◌≡◌, ℕ, zero, suc, ◌+◌, ◌*◌, ◌≤◌, Bool, not, cond, ◌&&◌, List, eqb, leb, ltb, get_or}
-use Rattle.stirling.specs.Refusal.{refuse, ◌then◌, unless, within}
+use Rattle.std.specs.Prelude.{◌≡◌, ℕ, zero, suc, ◌+◌, ◌*◌, ◌≤◌, Bool, not, cond, ◌&&◌, List, eqb, leb, ltb, get_or, Result, Ok, Err}
+use Rattle.stirling.specs.Refusal.{refuse, ◌then◌, unless, within, number}
+use Rattle.stirling.specs.declared.Refusal.{Refusal}
 use Rattle.stirling.specs.declared.Counted.{Counted}
 
 -- c(0,0) = 1; zero if just one of n, k is 0; otherwise c(n,k) = (n−1)×c(n−1,k) + c(n−1,k−1)
@@ -45,3 +46,8 @@ lookup_of n k = cond (leb n 20) (c n k) 0
 -- document 01's call Count, for every n and k: checks 1 and 2, then c(n,k); 0 on a refusal
 abbrev pub count_of : ℕ → ℕ → Counted
 count_of n k = record { refusal = check_cycles n k; count = unless (check_cycles n k) (c n k) 0 }
+
+-- a call's count as C has it: no refusal and the count, or the refusal's number and 0
+abbrev pub counted : Result ℕ Refusal → Counted
+counted (Ok count) = record { refusal = 0; count = count }
+counted (Err refusal) = record { refusal = number refusal; count = 0 }

@@ -2,14 +2,64 @@
 #![tactic(auto)]
 
 ghost use Rattle.std.specs.Prelude.{◌≡◌};
-ghost use Rattle.stirling.specs.Count.{entry_of, IsTable, lookup_of, check_size, check_cycles, check_place_in, check_place, count_of};
+ghost use Rattle.stirling.specs.Refusal.{number, refusal_in};
+ghost use Rattle.stirling.specs.Count.{entry_of, IsTable, lookup_of, check_size, check_cycles, check_place_in, check_place, count_of, counted};
 
-// The refusals of the checks on numbers; 0 is none.
-pub const REFUSED_SIZE: u8 = 1;
+// Why a call is refused: document 01's refusals and those of document 02, each by its number. C, a sheet and the rows of a walk have the number, with 0 for none.
+#[derive(Clone, Copy, Debug, PartialEq, Eq)]
+pub enum Refusal {
+    // n is above 20.
+    Size = 1,
+    // k is not a number of cycles of a permutation of n.
+    Cycles = 2,
+    // The place is not below the number of rows.
+    Place = 3,
+    // The rows asked for are not 1 to 1,000, or more than stand from the place on.
+    Rows = 4,
+    // A slice has not the length that it needs.
+    Lent = 5,
+    // A value, an entry or a position is out of its range.
+    Value = 6,
+    // A value stands twice.
+    Twice = 7,
+    // A record is not one that the calls of a walk hand back.
+    Record = 8,
+    // Forward from the last place of a section, or on a list of one permutation.
+    Last = 9,
+    // Back from the first place of a section, or on a list of one permutation.
+    First = 10,
+    // A text is no sheet.
+    Text = 11,
+    // Fewer rows are lent than explain the place.
+    Levels = 12,
+    // A place outside a section, or a section that begins above its end.
+    Section = 13,
+    // No permutation from the place on meets the wishes.
+    Unmet = 14,
+    // A cycle is longer than two.
+    Long = 15,
+    // A cycle does not fall from its highest number to its lowest.
+    Rising = 16,
+}
 
-pub const REFUSED_CYCLES: u8 = 2;
+impl Refusal {
+    // The number of the documents.
+    pub fn number(self) -> u8
+        ensures { result ≡ number self }
+    {
+        self as u8
+    }
+}
 
-pub const REFUSED_PLACE: u8 = 3;
+// What a call that gives nothing answers, as C has it: its refusal's number, and 0 for none.
+pub fn number_in(given: Result<(), Refusal>) -> u8
+    ensures { result ≡ refusal_in given }
+{
+    match given {
+        Ok(()) => 0,
+        Err(refusal) => refusal.number(),
+    }
+}
 
 // The largest n, and the largest k of the table.
 pub const LARGEST: u64 = 20;
@@ -17,7 +67,7 @@ pub const LARGEST: u64 = 20;
 // The counts of one n in the table, for k from 0 on.
 const ROW: u64 = 21;
 
-// c(n,k) for n and k from 0 to 20, at n * 21 + k.
+// c(n,k) for n and k from 0 to 20, at n * 21 + k: one flat array, since memory is fixed.
 const COUNTS: [u64; 441] = [
     1,
     0,
@@ -462,11 +512,26 @@ const COUNTS: [u64; 441] = [
     1,
 ];
 
-// A count, or a refusal with 0.
+// A count, or a refusal's number with 0, as C has it.
+#[repr(C)]
 #[derive(Drop)]
 pub struct Counted {
     pub refusal: u8,
     pub count: u64,
+}
+
+impl From<Result<u64, Refusal>> for Counted {
+    ghost from_gives = { λ given answer. answer ≡ counted given };
+
+    fn from(given: Result<u64, Refusal>) -> Counted {
+        match given {
+            Ok(count) => Counted { refusal: 0, count },
+            Err(refusal) => Counted {
+                refusal: refusal.number(),
+                count: 0,
+            },
+        }
+    }
 }
 
 // The table of the counts, to be made once and lent.
@@ -476,7 +541,8 @@ pub fn table() -> [u64; 441]
     COUNTS
 }
 
-// The entry of a table for n and k, and 0 outside it.
+// The entry of a table for n and k, and 0 outside it. That is no Option, since the clause speaks of every slice and of all numbers, and a call that could not fail
+// still cannot.
 pub fn entry(counts: &[u64], n: u64, k: u64) -> u64
     ensures { result ≡ entry_of counts.now n k }
 {
@@ -487,13 +553,10 @@ pub fn entry(counts: &[u64], n: u64, k: u64) -> u64
         return 0;
     }
     let at = (n * ROW + k) as usize;
-    if at < counts.len() {
-        return counts[at];
-    }
-    0
+    counts.get(at).copied().unwrap_or(0)
 }
 
-// c(n,k), and 0 where n is above 20.
+// c(n,k), and 0 where n is above 20, as the clause has it.
 pub fn lookup(n: u64, k: u64) -> u64
     ensures { result ≡ lookup_of n k }
 {
@@ -502,65 +565,53 @@ pub fn lookup(n: u64, k: u64) -> u64
 }
 
 // Check 1: n is at most 20.
-pub fn check_size(n: u64) -> u8
-    ensures { result ≡ check_size n }
+pub fn check_size(n: u64) -> Result<(), Refusal>
+    ensures { refusal_in result ≡ check_size n }
 {
     if LARGEST < n {
-        return REFUSED_SIZE;
+        return Err(Refusal::Size);
     }
-    0
+    Ok(())
 }
 
 // Check 1, then check 2: k is 0 with n = 0, and 1 to n with n ≥ 1.
-pub fn check_cycles(n: u64, k: u64) -> u8
-    ensures { result ≡ check_cycles n k }
+pub fn check_cycles(n: u64, k: u64) -> Result<(), Refusal>
+    ensures { refusal_in result ≡ check_cycles n k }
 {
-    let size_refusal = check_size(n);
-    if size_refusal != 0 {
-        return size_refusal;
-    }
+    check_size(n)?;
     // the one permutation of nothing has no cycle, and every other has one at least
     if n == 0 && k == 0 {
-        return 0;
+        return Ok(());
     }
     if k < 1 || k > n {
-        return REFUSED_CYCLES;
+        return Err(Refusal::Cycles);
     }
-    0
+    Ok(())
 }
 
 // Checks 1 and 2, then check 3 by a table: the place is below its entry for n and k.
-pub fn check_place_in(counts: &[u64], n: u64, k: u64, place: u64) -> u8
-    ensures { result ≡ check_place_in counts.now n k place }
+pub fn check_place_in(counts: &[u64], n: u64, k: u64, place: u64) -> Result<(), Refusal>
+    ensures { refusal_in result ≡ check_place_in counts.now n k place }
 {
-    let cycles_refusal = check_cycles(n, k);
-    if cycles_refusal != 0 {
-        return cycles_refusal;
-    }
+    check_cycles(n, k)?;
     if place >= entry(counts, n, k) {
-        return REFUSED_PLACE;
+        return Err(Refusal::Place);
     }
-    0
+    Ok(())
 }
 
 // Checks 1 and 2, then check 3: the place is below c(n,k).
-pub fn check_place(n: u64, k: u64, place: u64) -> u8
-    ensures { result ≡ check_place n k place }
+pub fn check_place(n: u64, k: u64, place: u64) -> Result<(), Refusal>
+    ensures { refusal_in result ≡ check_place n k place }
 {
     let counts = table();
     check_place_in(&counts, n, k, place)
 }
 
 // Document 01's Count: checks 1 and 2, then c(n,k).
-pub fn count(n: u64, k: u64) -> Counted
-    ensures { result ≡ count_of n k }
+pub fn count(n: u64, k: u64) -> Result<u64, Refusal>
+    ensures { counted result ≡ count_of n k }
 {
-    let refusal = check_cycles(n, k);
-    if refusal != 0 {
-        return Counted { refusal, count: 0 };
-    }
-    Counted {
-        refusal: 0,
-        count: lookup(n, k),
-    }
+    check_cycles(n, k)?;
+    Ok(lookup(n, k))
 }

@@ -2,21 +2,24 @@
 use mathlib.Core.Path.{◌≡◌, refl, sym, ap, ◌∙◌}
 use Prim.Native.Nat.{ℕ, zero, suc, ◌-◌, ◌≤◌, ◌<◌}
 use native.Mathlib.Omega.{arith}
-use mathlib.Core.Bool.{Bool, false, not}
+use mathlib.Core.Bool.{Bool, true, false, not}
 use mathlib.Core.Logic.{◌≢◌}
 use mathlib.Core.List.{List, [], ◌∷◌, ◌++◌}
 use lib.Dec.{eqb, leb}
 use lib.ListN.{length, take, drop, length-append}
 use lib.Seq.{length-take-le, take_at}
 use borrow.Author.Tests.{eqb-true, leb-false, ltb-false, not-false}
-use Rattle.stirling.specs.Refusal.{refuse}
+use Rattle.std.specs.Prelude.{Result, Ok, Err}
+use Rattle.std.specs.Result.{is_ok}
+use Rattle.stirling.specs.declared.Refusal.{Refusal}
+use Rattle.stirling.specs.Refusal.{refuse, refusal_in}
 use Rattle.stirling.specs.Count.{check_size}
-use Rattle.stirling.proofs.Refusals.{refuse-passed, then_passed}
+use Rattle.stirling.proofs.Refusals.{number_some, refuse-passed, then_passed}
 use Rattle.stirling.proofs.Counts.{size_passes, size-passed}
 use Rattle.perm.specs.Lists.{tally, some, range, positions}
 use Rattle.perm.specs.Permutation.{IsPermutation}
 use Rattle.perm.specs.Array.{IsArray, IsArrayOf, partial, product}
-use Rattle.perm.specs.Checks.{check_lent, check_permutation, check_from_array, ToArray, FromArray}
+use Rattle.perm.specs.Checks.{check_lent, check_permutation, check_from_array, answer_of, ToArray, FromArray}
 use Rattle.perm.specs.declared.Array.{Array}
 use Rattle.perm.proofs.Tally.{length-range, range_none_passes}
 use Rattle.perm.proofs.Values.{at-positions}
@@ -93,14 +96,25 @@ identity_partial n (suc m) u = rw (at-positions n (suc m) (omega arith) u, ident
 pub identity_product : (n : ℕ) → product (positions n) ≡ positions n
 identity_product n = product-partial (positions n) (length-range 1 n) ∙ identity_partial n n (omega arith)
 
--- so what is written from it is the identity
-pub identity_written : (n : ℕ) {before after : List ℕ} {r : ℕ} → n ≤ 20 → length before ≡ n → FromArray (take n twenty) before r after → after ≡ positions n
-identity_written n {before} {after} {r} u e w =
-    let p = first-values n u in
+-- so it is taken
+identity_passed : (n : ℕ) {before after : List ℕ} {r : ℕ} → n ≤ 20 → length before ≡ n → FromArray (take n twenty) before r after → r ≡ 0
+identity_passed n u e w =
     let z = length-range 1 n in
     let passed : check_from_array (positions n) n ≡ 0 = rw (z, size_passes n u, ← (lent_passes n n refl)) (rw z at (passes_array (identity_array n))) in
-    let refusal : r ≡ 0 = w.refusal ∙ rw (p, e) passed in
-    w.written refusal ∙ rw p (identity_product n)
+    w.refusal ∙ rw (first-values n u, e) passed
+
+pub identity_served : (n : ℕ) {A : Type 0} (r : Result A Refusal) {before after : List ℕ} → n ≤ 20 → length before ≡ n → FromArray (take n twenty) before (refusal_in r) after → is_ok r ≡ true
+identity_served n (Ok none) u e w = refl
+identity_served n (Err refusal) u e w = absurd (number_some refusal (identity_passed n u e w))
+
+-- and what is written from it is the identity
+pub identity_written : (n : ℕ) {before after : List ℕ} {r : ℕ} → n ≤ 20 → length before ≡ n → FromArray (take n twenty) before r after → after ≡ positions n
+identity_written n u e w = w.written (identity_passed n u e w) ∙ rw (first-values n u) (identity_product n)
+
+-- a call that has no refusal gives the number of fixed points
+given : (r : Result ℕ Refusal) → (answer_of r).refusal ≡ 0 → is_ok r ≡ true
+given (Ok fixed) e = refl
+given (Err refusal) e = absurd (number_some refusal e)
 
 -- the array of a permutation, written to the front of 20 bytes
 module _ (s z : List ℕ) {after : List ℕ} {r : Array} (e : length z ≡ 20) (u : length s ≤ 20) (p : IsPermutation (length s) s) (w : ToArray s (take (length s) z) r after) where
@@ -108,6 +122,9 @@ module _ (s z : List ℕ) {after : List ℕ} {r : Array} (e : length z ≡ 20) (
   made-passed =
       w.refusal
       ∙ rw (size_passes (length s) u, ← (lent_passes (length s) (length (take (length s) z)) (length-take-le (length s) z (omega arith))), passes_values p) (passes_twice p)
+
+  pub array_served : (answer : Result ℕ Refusal) → r ≡ answer_of answer → is_ok answer ≡ true
+  array_served answer e = given answer (rw e at made-passed)
 
   pub array_made : IsArrayOf s (take (length s) (after ++ drop (length s) z))
   array_made = rw (take_at after (drop (length s) z) (length s) (w.written made-passed).array.size) (w.written made-passed)

@@ -4,27 +4,24 @@ use Prim.Native.Nat.{ℕ, zero, suc, ◌+◌, ◌-◌, ◌*◌, ◌≤◌, ◌<�
 use native.Mathlib.Omega.{arith}
 use native.Mathlib.Nat.{mul-le-mul_right}
 use native.Mathlib.Decide.{ℕ_discrete}
-use mathlib.Core.Bool.{true, cond}
+use mathlib.Core.Bool.{true}
 use mathlib.Core.List.{List}
-use lib.Dec.{leb}
 use lib.ListN.{length, get_or}
-use borrow.Author.Tests.{ne_eqb, le-leb, lt-leb}
-use Rattle.perm.specs.Lists.{positions}
+use Rattle.std.specs.List.{swap}
+use Rattle.std.proofs.lemmas.List.Edits.{swap_is}
 use Rattle.perm.specs.Permutation.{at, exchange}
 use Rattle.perm.specs.Array.{partial, product}
-use Rattle.perm.proofs.Tally.{tally-not, tally-positions, length-range}
+use Rattle.perm.proofs.Tally.{tally-positions}
 use Rattle.perm.proofs.Values.{at_suc}
 use Rattle.perm.proofs.Exchange.{length-exchange, exchange_same}
 use Rattle.perm.proofs.Arrays.{product-partial}
 use Rattle.tree.specs.Kind.{rule_of, IsOf}
 use Rattle.tree.specs.Listing.{row_at}
 use Rattle.tree.specs.Sizes.{usable_below, size}
-use Rattle.tree.specs.Search.{rows, count_usable, Settled, Stands, Falls, Leads, place_from, Down, Along}
+use Rattle.tree.specs.Search.{rows, count_usable, Settled, Stands, FallsTo, Leads}
 use Rattle.tree.specs.declared.Kind.{Kind}
-use Rattle.tree.specs.declared.Step.{Step}
 use Rattle.tree.proofs.Each.{row_inside}
-use Rattle.tree.proofs.Settled.{child-settled}
-use Rattle.tree.proofs.Once.{kept_next, partial_settled}
+use Rattle.tree.proofs.Settled.{settled_higher, child-settled}
 use Rattle.tree.proofs.PerKind.{fits, count_child, count_behind}
 use Rattle.tree.proofs.Places.{row-child, row-behind}
 
@@ -46,9 +43,10 @@ unfolding size
 some_remain kind f zero place a u = absurd (omega arith)
 some_remain kind f (suc m) place a u = omega arith
 
--- the place that is left where a place falls to: one of the child's subtree, or one of what hangs from the next position on, s itself before it
-abbrev pub left_after : Step → ℕ → ℕ
-left_after r h = cond (leb r.position h) r.place (suc r.place)
+-- the library's swap of two indices is the exchange of their positions
+pub swap-exchange : (s : List ℕ) (a h : ℕ) → 1 ≤ a → a ≤ length s → h < length s → swap s (a - 1) h ≡ exchange a (suc h) s
+unfolding exchange
+swap-exchange s a h u v w = let y : suc h - 1 ≡ h = omega arith in rw y (sym (swap_is s (a - 1) h 0 (omega arith) w))
 
 -- the searches in the list of a kind
 module _ (kind : Kind) where
@@ -62,11 +60,7 @@ module _ (kind : Kind) where
   abbrev child_size : ℕ → ℕ → ℕ
   child_size f m = size kind (usable_below kind f) m
 
-  -- at most h of the positions 1 to h may be used
-  usable-most : (s : List ℕ) (h : ℕ) → counted s h ≤ h
-  usable-most s h = omega (arith, tally-not (rule_of kind s) (positions h), length-range 1 h)
-
-  -- and no fewer of more of them
+  -- no fewer of more positions may be used
   usable-more : (s : List ℕ) (k h : ℕ) → k ≤ h → counted s k ≤ counted s h
   usable-more s k zero u = let z : k ≡ 0 = omega arith in rw z (omega arith)
   usable-more s k (suc h) u = by_last (ℕ_discrete k (suc h)) (λ v. usable-more s k h v)
@@ -75,10 +69,6 @@ module _ (kind : Kind) where
       by_last (yes e) ih = rw e (omega arith)
       by_last (no d) ih = omega (arith, tally-positions (rule_of kind s) h, ih (omega arith))
 
-  -- so those that may be used and those that remain are 20 at most
-  pub few : {m f : ℕ} {s : List ℕ} → Stands kind m f s → f + m ≤ 20
-  few {m} {f} {s} w = omega (arith, w.small, w.room, w.usable, usable-most s (length s - m))
-
   -- how a permutation stands, by n, h and the positions that remain
   stands : {n h m f : ℕ} {s : List ℕ} → n ≤ 20 → h + m ≡ n → Settled n h s → IsOf kind n s → f ≡ counted s h → Stands kind m f s
   stands {n} {h} {m} {f} {s} u e w k g =
@@ -86,136 +76,119 @@ module _ (kind : Kind) where
       let y : length s - m ≡ h = omega arith in
       record { small = omega arith; room = omega arith; settled = rw (y, z) w; of_kind = rw z k; usable = rw y g }
 
-  -- A step: s is of the kind, with the positions above h settled, m + 1 of them, f before them that may be used; l is one of those, or the next position.
-  pub record At (s : List ℕ) (n h m f l : ℕ) : Type 0 where
-    pub small : n ≤ 20
-    pub all : h + suc m ≡ n
-    pub settled : Settled n h s
-    pub of_kind : IsOf kind n s
-    pub usable : f ≡ counted s h
-    pub least : 1 ≤ l
-    pub most : l ≤ suc h
-    pub allowed : l ≤ h → rule_of kind s l ≡ true
+  -- A step: s is of the kind, with the positions above h settled, m + 1 of them, and f before them that may be used.
+  record At (s : List ℕ) (n h m f : ℕ) : Type 0 where
+    small : n ≤ 20
+    all : h + suc m ≡ n
+    settled : Settled n h s
+    of_kind : IsOf kind n s
+    usable : f ≡ counted s h
 
-  -- the positions that may be used after it: those below a child, and behind all children the next too
-  abbrev pub usableAfter : ℕ → ℕ → ℕ → ℕ
-  usableAfter l h f = cond (leb l h) (usable_below kind f) (suc f)
+  at-stands : {m f : ℕ} {s : List ℕ} → Stands kind (suc m) f s → At s (length s) (length s - suc m) m f
+  at-stands {m} {f} {s} w = record { small = w.small; all = omega (arith, w.room); settled = w.settled; of_kind = w.of_kind; usable = w.usable }
 
-  usable-child : (l h f : ℕ) → l ≤ h → usableAfter l h f ≡ usable_below kind f
-  usable-child l h f b = rw (le-leb l h b)
-
-  usable-behind : (l h f : ℕ) → l ≡ suc h → usableAfter l h f ≡ suc f
-  usable-behind l h f e = rw (lt-leb l h (omega arith))
-
-  module _ {s : List ℕ} {n h m f l : ℕ} (w : At s n h m f l) where
-    -- behind all children nothing is exchanged
-    same-behind : l ≡ suc h → exchange l (suc h) s ≡ s
-    same-behind e = rw (e, exchange_same (suc h) s)
-
-    -- how many may be used after it
-    usable-next : usableAfter l h f ≡ counted (exchange l (suc h) s) (suc h)
-    usable-next = by-top (ℕ_discrete l (suc h))
-      where
-        by-top : Dec (l ≡ suc h) → usableAfter l h f ≡ counted (exchange l (suc h) s) (suc h)
-        by-top (yes e) = rw (same-behind e) (usable-behind l h f e ∙ omega (arith, w.usable, count_behind kind w.settled (omega (arith, w.all))))
-        by-top (no d) =
-            let b : l ≤ h = omega (arith, w.most) in
-            usable-child l h f b ∙ rw w.usable (sym (count_child kind w.of_kind.permutation w.settled (omega (arith, w.all)) l w.least b (w.allowed b)))
-
-    -- so one position less remains
-    pub stands-next : Stands kind m (usableAfter l h f) (exchange l (suc h) s)
-    stands-next =
+  module _ {s : List ℕ} {n h m f : ℕ} (w : At s n h m f) where
+    -- in the subtree of a child one position less remains
+    stands_child : (l : ℕ) → 1 ≤ l → l ≤ h → rule_of kind s l ≡ true → Stands kind m (usable_below kind f) (exchange l (suc h) s)
+    stands_child l a b t =
         let room : h < n = omega (arith, w.all) in
-        stands w.small (omega (arith, w.all)) (child-settled w.settled room l w.least w.most)
-        (kept_next (fits kind n) h l s w.of_kind w.settled room w.least w.most w.allowed) usable-next
+        stands w.small (omega (arith, w.all)) (child-settled w.settled room l a (omega arith))
+        ((fits kind n).child h l s w.of_kind w.settled room a b t)
+        (rw w.usable (sym (count_child kind w.of_kind.permutation w.settled room l a b t)))
 
-    -- the row at a place of the subtree of s is the one at place q after the step
-    pub record Below (place q : ℕ) : Type 0 where
-      pub inside : place < size kind f (suc m)
-      pub row : row_at (rows_of h (suc m) s) place ≡ row_at (rows_of (suc h) m (exchange l (suc h) s)) q
+    -- and behind all children, where the next may be used too
+    stands_behind : Stands kind m (suc f) s
+    stands_behind =
+        stands w.small (omega (arith, w.all)) (settled_higher (suc h) (omega arith) w.settled) w.of_kind
+        (omega (arith, w.usable, count_behind kind w.settled (omega (arith, w.all))))
 
-    -- of a child: behind s and the children before it
-    pub below-child : (q : ℕ) → l ≤ h → q < size kind (usableAfter l h f) m → Below (counted s (l - 1) * child_size f m + q + 1) q
+    -- the rows of a child's subtree stand behind s and those of the children before it
+    inside_child : (l q : ℕ) → 1 ≤ l → l ≤ h → rule_of kind s l ≡ true → q < child_size f m → suc (counted s (l - 1) * child_size f m + q) < size kind f (suc m)
     unfolding size
-    below-child q b u =
-        let v : q < child_size f m = rw (usable-child l h f b) at u in
-        let x : suc (counted s (l - 1) * child_size f m + q) ≡ counted s (l - 1) * child_size f m + q + 1 = omega arith in
-        record {
-          inside = omega (arith, row_inside (rule_of kind s) (child_size f m) h l q w.least b (w.allowed b) v, ap (λ (y : ℕ). y * child_size f m) w.usable, size_some kind (suc f) m);
-          row = rw (← x, w.usable) (row-child kind m w.of_kind.permutation w.settled w.all l q w.least b (w.allowed b) (rw w.usable at v));
-        }
+    inside_child l q a b t u =
+        omega (arith, row_inside (rule_of kind s) (child_size f m) h l q a b t u, ap (λ (y : ℕ). y * child_size f m) w.usable, size_some kind (suc f) m)
 
-    -- behind all children: behind these, s itself not counted again
-    pub below-behind : (q : ℕ) → l ≡ suc h → 1 ≤ q → q < size kind (usableAfter l h f) m → Below (counted s (l - 1) * child_size f m + q) q
+    row_child : (l q : ℕ) → 1 ≤ l → l ≤ h → rule_of kind s l ≡ true → q < child_size f m
+        → row_at (rows_of h (suc m) s) (suc (counted s (l - 1) * child_size f m + q)) ≡ row_at (rows_of (suc h) m (exchange l (suc h) s)) q
+    row_child l q a b t u = rw w.usable (row-child kind m w.of_kind.permutation w.settled w.all l q a b t (rw w.usable at u))
+
+    -- and those behind all children, s itself not counted again, behind the rows of the children
+    inside_behind : (q : ℕ) → q < size kind (suc f) m → counted s h * child_size f m + q < size kind f (suc m)
     unfolding size
-    below-behind zero e a u = absurd (omega arith)
-    below-behind (suc q) e a u =
-        let y : l - 1 ≡ h = omega arith in
-        let v : suc q < size kind (suc f) m = rw (usable-behind l h f e) at u in
+    inside_behind q u = rw (← w.usable) (omega arith)
+
+    row_behind : (q : ℕ) → 1 ≤ q → row_at (rows_of h (suc m) s) (counted s h * child_size f m + q) ≡ row_at (rows_of (suc h) m s) q
+    row_behind zero a = absurd (omega arith)
+    row_behind (suc q) a =
         let x : counted s h * child_size f m + suc q ≡ suc (counted s h * child_size f m + q) = omega arith in
-        record {
-          inside = rw (y, ← w.usable) (omega arith);
-          row = rw (y, same-behind e, x, w.usable) (row-behind kind m w.of_kind.permutation w.settled w.all q);
-        }
+        rw (x, w.usable) (row-behind kind m w.of_kind.permutation w.settled w.all q)
 
-    -- s itself
-    pub below_self : l ≡ suc h → Below 0 0
-    below_self e = record { inside = size_some kind f (suc m); row = rw (same-behind e) }
+  -- The same by the number of positions that remain, as the searches have it.
+  -- In the subtree of a child that exchanges l:
+  pub record ToChild (m f l : ℕ) (s : List ℕ) (t : List ℕ) : Type 0 where
+    pub stands : Stands kind (m - 1) (usable_below kind f) t
+    pub inside : (q : ℕ) → q < child_size f (m - 1) → suc (counted s (l - 1) * child_size f (m - 1) + q) < size kind f m
+    pub row : (q : ℕ) → q < child_size f (m - 1) → row_at (rows_of (length s - m) m s) (suc (counted s (l - 1) * child_size f (m - 1) + q)) ≡ row_at (rows_of (length t - (m - 1)) (m - 1) t) q
 
-  -- in one: the place before the step, from the place after it
-  pub below-from : {s : List ℕ} {n h m f l : ℕ} (w : At s n h m f l) (q : ℕ) → q < size kind (usableAfter l h f) m → Below w (place_from (counted s (l - 1) * child_size f m) q (leb l h)) q
-  below-from {s} {n} {h} {m} {f} {l} w q u = by-top (ℕ_discrete l (suc h)) (ℕ_discrete q 0)
-    where
-      by-top : Dec (l ≡ suc h) → Dec (q ≡ 0) → Below w (place_from (counted s (l - 1) * child_size f m) q (leb l h)) q
-      by-top (yes e) (yes z) = rw (lt-leb l h (omega arith), z) (below_self w e)
-      by-top (yes e) (no d) = rw (lt-leb l h (omega arith), ne_eqb q 0 d) (below-behind w q e (omega arith) u)
-      by-top (no d) z =
-          let b : l ≤ h = omega (arith, w.most) in
-          let x : counted s (l - 1) * child_size f m + q + 1 ≡ suc (counted s (l - 1) * child_size f m + q) = omega arith in
-          rw (le-leb l h b) (subst (λ (p : ℕ). Below w p q) x (below-child w q b u))
+  -- Behind all children:
+  pub record ToBehind (m f : ℕ) (s : List ℕ) : Type 0 where
+    pub stands : Stands kind (m - 1) (suc f) s
+    pub inside : (q : ℕ) → q < size kind (suc f) (m - 1) → counted s (length s - m) * child_size f (m - 1) + q < size kind f m
+    pub row : (q : ℕ) → 1 ≤ q → row_at (rows_of (length s - m) m s) (counted s (length s - m) * child_size f (m - 1) + q) ≡ row_at (rows_of (length s - (m - 1)) (m - 1) s) q
 
-  -- the place falls to a step, and the row is the one at the place that is left
-  pub falls_at : {s : List ℕ} {n h m f place : ℕ} {r : Step} → n ≤ 20 → h + suc m ≡ n → Settled n h s → IsOf kind n s → f ≡ counted s h → Falls kind s h (child_size f m) place r → At s n h m f r.position
-  falls_at small all set of_kind usable falls = record { small = small; all = all; settled = set; of_kind = of_kind; usable = usable; least = falls.least; most = falls.most; allowed = λ b. (falls.child b).0 }
-
-  pub falls-row : {s : List ℕ} {n h m f : ℕ} (place : ℕ) {r : Step} → At s n h m f r.position → Falls kind s h (child_size f m) (place - 1) r → 1 ≤ place → place < size kind f (suc m)
-      → (left_after r h < size kind (usableAfter r.position h f) m) × (row_at (rows_of h (suc m) s) place ≡ row_at (rows_of (suc h) m (exchange r.position (suc h) s)) (left_after r h))
-  unfolding size
-  falls-row {s} {n} {h} {m} {f} place {r} w falls some inside = by-top (ℕ_discrete r.position (suc h))
-    where
-      by-top : Dec (r.position ≡ suc h)
-          → (left_after r h < size kind (usableAfter r.position h f) m) × (row_at (rows_of h (suc m) s) place ≡ row_at (rows_of (suc h) m (exchange r.position (suc h) s)) (left_after r h))
-      by-top (yes e) =
-          let i : left_after r h ≡ suc r.place = rw (lt-leb r.position h (omega arith)) in
-          let y : r.position - 1 ≡ h = omega arith in
-          let all : counted s (r.position - 1) * child_size f m ≡ f * child_size f m = rw (y, ← w.usable) in
-          let u : suc r.place < size kind (usableAfter r.position h f) m = rw (usable-behind r.position h f e) (omega (arith, falls.sum)) in
-          let p : place ≡ counted s (r.position - 1) * child_size f m + suc r.place = omega (arith, falls.sum) in
-          rw i (u, rw p (below-behind w (suc r.place) e (omega arith) u).row)
-      by-top (no d) =
-          let b : r.position ≤ h = omega (arith, w.most) in
-          let i : left_after r h ≡ r.place = rw (le-leb r.position h b) in
-          let u : r.place < size kind (usableAfter r.position h f) m = rw (usable-child r.position h f b) (falls.child b).1 in
-          let p : place ≡ counted s (r.position - 1) * child_size f m + r.place + 1 = omega (arith, falls.sum) in
-          rw i (u, rw p (below-child w r.place b u).row)
-
-  -- the next exchange of an array that leads to s
-  pub leads-at : {a s : List ℕ} {h m f : ℕ} → length a ≤ 20 → h + suc m ≡ length a → IsOf kind (length a) s → f ≡ counted s h → Leads kind a h s → At s (length a) h m f (at a (suc h))
-  leads-at {a} {s} {h} {m} {f} small all of_kind usable v =
-      let (l, b) = v.array.bound (suc h) (omega arith) (omega arith) in
+  pub to_child : (m : ℕ) {f : ℕ} (l : ℕ) {s : List ℕ} → Stands kind m f s → 1 ≤ m → 1 ≤ l → l ≤ length s - m → rule_of kind s l ≡ true → ToChild m f l s (exchange l (suc (length s - m)) s)
+  to_child zero l w some a b t = absurd (omega arith)
+  to_child (suc m) {f} l {s} w some a b t =
+      let h = length s - suc m in
+      let y : suc m - 1 ≡ m = omega arith in
+      let x = exchange l (suc h) s in
+      let k : length x - m ≡ suc h = omega (arith, w.room, length-exchange l (suc h) s) in
+      let here = at-stands w in
       record {
-        small = small;
-        all = all;
-        settled = rw v.here at (partial_settled v.array h (omega arith)).1;
-        of_kind = of_kind;
-        usable = usable;
-        least = l;
-        most = b;
-        allowed = λ c. rw v.here at (v.allowed h (omega arith) (omega arith) c);
+        stands = rw y (stands_child here l a b t);
+        inside = rw y (λ q u. inside_child here l q a b t u);
+        row = λ q u. subst (λ (z : ℕ). row_at (rows_of h (suc m) s) (suc (counted s (l - 1) * child_size f z + q)) ≡ row_at (rows_of (length x - z) z x) q) (sym y)
+            (subst (λ (z : ℕ). row_at (rows_of h (suc m) s) (suc (counted s (l - 1) * child_size f m + q)) ≡ row_at (rows_of z m x) q) (sym k) (row_child here l q a b t (rw y at u)));
       }
 
-  -- leads on
-  pub leads-next : {a s : List ℕ} {h : ℕ} → Leads kind a h s → Leads kind a (suc h) (exchange (at a (suc h)) (suc h) s)
+  pub to_behind : (m : ℕ) {f : ℕ} {s : List ℕ} → Stands kind m f s → 1 ≤ m → ToBehind m f s
+  to_behind zero w some = absurd (omega arith)
+  to_behind (suc m) {f} {s} w some =
+      let h = length s - suc m in
+      let y : suc m - 1 ≡ m = omega arith in
+      let k : length s - m ≡ suc h = omega (arith, w.room) in
+      let here = at-stands w in
+      record {
+        stands = rw y (stands_behind here);
+        inside = rw y (λ q u. inside_behind here q u);
+        row = λ q a. subst (λ (z : ℕ). row_at (rows_of h (suc m) s) (counted s h * child_size f z + q) ≡ row_at (rows_of (length s - z) z s) q) (sym y)
+            (subst (λ (z : ℕ). row_at (rows_of h (suc m) s) (counted s h * child_size f m + q) ≡ row_at (rows_of z m s) q) (sym k) (row_behind here q a));
+      }
+
+  -- A step to where a place lies, from s to t: f positions of t may be used, and the row at the place is the one at the place that is left.
+  pub record Down (m place : ℕ) (s : List ℕ) (f left : ℕ) (t : List ℕ) : Type 0 where
+    pub stands : Stands kind (m - 1) f t
+    pub inside : left < size kind f (m - 1)
+    pub row : row_at (rows_of (length s - m) m s) place ≡ row_at (rows_of (length t - (m - 1)) (m - 1) t) left
+
+  -- where the place, without s itself, falls to a child
+  pub down_child : (m : ℕ) {f place l left : ℕ} {s : List ℕ} → Stands kind m f s → 1 ≤ m → 1 ≤ place → FallsTo kind s (length s - m) (child_size f (m - 1)) (place - 1) l left
+      → Down m place s (usable_below kind f) left (exchange l (suc (length s - m)) s)
+  down_child m {f} {place} {l} {left} {s} w some a falls =
+      let step = to_child m l w some falls.least falls.most falls.allowed in
+      let p : place ≡ suc (counted s (l - 1) * child_size f (m - 1) + left) = omega (arith, falls.sum) in
+      record { stands = step.stands; inside = falls.inside; row = rw p (step.row left falls.inside) }
+
+  -- and behind them all, where s itself stands first again
+  pub down_behind : (m : ℕ) {f place left : ℕ} {s : List ℕ} → Stands kind m f s → 1 ≤ m → 1 ≤ place → place < size kind f m
+      → place - 1 ≡ counted s (length s - m) * child_size f (m - 1) + left → Down m place s (suc f) (suc left) s
+  down_behind m {f} {place} {left} {s} w some a u e =
+      let step = to_behind m w some in
+      let p : place ≡ counted s (length s - m) * child_size f (m - 1) + suc left = omega arith in
+      record { stands = step.stands; inside = omega (arith, size_parts kind f m some, ap (λ (y : ℕ). y * child_size f (m - 1)) w.usable); row = rw p (step.row (suc left) (omega arith)) }
+
+  -- the next exchange of an array that leads to s leads on
+  leads-next : {a s : List ℕ} {h : ℕ} → Leads kind a h s → Leads kind a (suc h) (exchange (at a (suc h)) (suc h) s)
   unfolding partial
   leads-next {a} {s} {h} v = record { array = v.array; here = ap (exchange (at a (suc h)) (suc h)) v.here; allowed = λ i b. v.allowed i (omega arith) }
 
@@ -223,59 +196,51 @@ module _ (kind : Kind) where
   pub leads-end : {a s : List ℕ} {h : ℕ} → h ≡ length a → Leads kind a h s → s ≡ product a
   leads-end {a} {s} {h} e v = sym v.here ∙ ap (partial (length a) a) e ∙ sym (product-partial a refl)
 
-  -- the step down that a place falls to
-  pub stepped_down : (m : ℕ) {f : ℕ} (place : ℕ) {s : List ℕ} {r : Step} → Stands kind m f s → 1 ≤ m → 1 ≤ place → place < size kind f m
-      → Falls kind s (length s - m) (child_size f (m - 1)) (place - 1) r
-      → Down kind m place s (record { usable = usableAfter r.position (length s - m) f; place = left_after r (length s - m) }) (exchange r.position (suc (length s - m)) s)
-  stepped_down zero place w some a u falls = absurd (omega arith)
-  stepped_down (suc m) {f} place {s} {r} w some a u falls =
-      let h = length s - suc m in
-      let all : h + suc m ≡ length s = omega (arith, w.room) in
-      let y : suc m - 1 ≡ m = omega arith in
-      let k : length (exchange r.position (suc h) s) - m ≡ suc h = omega (arith, length-exchange r.position (suc h) s) in
-      let here : Falls kind s h (child_size f m) (place - 1) r = rw y at falls in
-      let step = falls_at w.small all w.settled w.of_kind w.usable here in
-      let (inside, row) = falls-row place step here a u in
-      record { stands = rw y (stands-next step); inside = rw y inside; row = rw (y, k) row }
-
-  -- a row of s and what hangs below it
-  abbrev row_of : ℕ → ℕ → List ℕ → ℕ → List ℕ
-  row_of h m s q = row_at (rows_of h m s) q
-
-  -- the step along an array that exchanges l
-  abbrev AlongBy : List ℕ → ℕ → ℕ → List ℕ → ℕ → Type 0
-  AlongBy a m f s l =
-      Along kind a m f s (record { usable = usableAfter l (length s - m) f; before = counted s (l - 1) * child_size f (m - 1); child = leb l (length s - m) }) (exchange l (suc (length s - m)) s)
-
-  along : (m : ℕ) {f : ℕ} {a s : List ℕ} → Stands kind m f s → 1 ≤ m → length a ≡ length s → Leads kind a (length s - m) s → AlongBy a m f s (at a (suc (length s - m)))
-  along zero w some e v = absurd (omega arith)
-  along (suc m) {f} {a} {s} w some e v =
-      let h = length s - suc m in
-      let l = at a (suc h) in
-      let all : h + suc m ≡ length a = omega (arith, w.room) in
-      let y : suc m - 1 ≡ m = omega arith in
-      let t = exchange l (suc h) s in
-      let k : length t - m ≡ suc h = omega (arith, w.room, length-exchange l (suc h) s) in
-      let step = leads-at (omega (arith, w.small)) all (rw e w.of_kind) w.usable v in
-      record {
-        stands = rw y (stands-next step);
-        leads = rw (y, k) (leads-next v);
-        inside = rw y (λ q u. (below-from step q u).inside);
-        row = λ q u. subst (λ (x : ℕ). row_of h (suc m) s (place_from (counted s (l - 1) * child_size f x) q (leb l h)) ≡ row_of (length t - x) x t q) (sym y)
-            (subst (λ (x : ℕ). row_of h (suc m) s (place_from (counted s (l - 1) * child_size f m) q (leb l h)) ≡ row_of x m t q) (sym k) (below-from step q (rw y at u)).row);
-      }
-
   -- at index n − m of the array stands what it exchanges
   module _ (m : ℕ) {f : ℕ} {a s : List ℕ} (w : Stands kind m f s) (some : 1 ≤ m) (e : length a ≡ length s) (v : Leads kind a (length s - m) s) where
-    pub stepped-along : AlongBy a m f s (get_or a (length s - m) 0)
-    stepped-along = subst (AlongBy a m f s) (at_suc a (length s - m)) (along m w some e v)
+    abbrev pub next : ℕ
+    next = get_or a (length s - m) 0
 
-    pub next-bound : (1 ≤ get_or a (length s - m) 0) × (get_or a (length s - m) 0 ≤ suc (length s - m))
+    pub next-bound : (1 ≤ next) × (next ≤ suc (length s - m))
     next-bound = rw (at_suc a (length s - m)) at (v.array.bound (suc (length s - m)) (omega arith) (omega (arith, w.room)))
 
+    leads-on : Leads kind a (suc (length s - m)) (exchange next (suc (length s - m)) s)
+    leads-on = rw (at_suc a (length s - m)) at (leads-next v)
+
+    -- a child, where the next index is swapped with that of the position named
+    module _ (b : next ≤ length s - m) {t : List ℕ} (x : t ≡ swap s (next - 1) (length s - m)) where
+      made : t ≡ exchange next (suc (length s - m)) s
+      made = x ∙ swap-exchange s next (length s - m) next-bound.0 (omega arith) (omega (arith, w.room))
+
+      pub next-child : ToChild m f next s t
+      next-child =
+          rw made
+          (to_child m next w some next-bound.0 b (rw (v.here, at_suc a (length s - m)) at (v.allowed (length s - m) (omega arith) (omega (arith, w.room)) (rw (at_suc a (length s - m)) b))))
+
+      pub child-long : length a ≡ length t
+      child-long = rw (made, length-exchange next (suc (length s - m)) s) e
+
+      pub leads-child : Leads kind a (length t - (m - 1)) t
+      leads-child =
+          let k : length t - (m - 1) ≡ suc (length s - m) = omega (arith, w.room, child-long) in
+          rw (k, made) leads-on
+
+    -- or none
+    pub leads-behind : length s - m < next → Leads kind a (length s - (m - 1)) s
+    leads-behind b =
+        let z : next ≡ suc (length s - m) = omega (arith, next-bound) in
+        let k : length s - (m - 1) ≡ suc (length s - m) = omega (arith, w.room) in
+        rw k (rw (z, exchange_same (suc (length s - m)) s) at leads-on)
+
     -- the rows that are passed are among those of the subtree
-    pub passed-most : counted s (get_or a (length s - m) 0 - 1) * child_size f (m - 1) ≤ size kind f m
+    pub passed-most : counted s (next - 1) * child_size f (m - 1) ≤ size kind f m
     passed-most =
-        let more = usable-more s (get_or a (length s - m) 0 - 1) (length s - m) (omega (arith, next-bound)) in
-        let times : counted s (get_or a (length s - m) 0 - 1) * child_size f (m - 1) ≤ f * child_size f (m - 1) = mul-le-mul_right (child_size f (m - 1)) (omega (arith, w.usable)) in
+        let more = usable-more s (next - 1) (length s - m) (omega (arith, next-bound)) in
+        let times : counted s (next - 1) * child_size f (m - 1) ≤ f * child_size f (m - 1) = mul-le-mul_right (child_size f (m - 1)) (omega (arith, w.usable)) in
         omega (arith, size_parts kind f m some)
+
+-- a place among the rows of a branch, said of its numbers
+pub same-branch : (kind : Kind) (s a : List ℕ) {m n f g place : ℕ} → m ≡ n → f ≡ g → (place < size kind f m) × (row_at (rows (rule_of kind) (length s - m) m s) place ≡ product a)
+    → (place < size kind g n) × (row_at (rows (rule_of kind) (length s - n) n s) place ≡ product a)
+same-branch kind s a {place = place} e f h =
+    (rw (e, f) at h.0, subst (λ (m : ℕ). row_at (rows (rule_of kind) (length s - m) m s) place ≡ product a) e h.1)

@@ -15,6 +15,7 @@ pub mod Places
 pub mod Numbers
 pub mod Descent
 pub mod Steps
+pub mod Chains
 pub mod Checked
 pub mod RoundTrip
 pub mod Cases

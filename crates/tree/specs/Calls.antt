@@ -1,6 +1,7 @@
 -- The calls of document 02, j) and k), for every kind and every input: count, permutation at a place, place of a permutation. These are definitions; nothing is assumed.
-use Rattle.std.specs.Prelude.{ℕ, List, leb, length}
-use Rattle.stirling.specs.Refusal.{refuse, ◌then◌, unless}
+use Rattle.std.specs.Prelude.{ℕ, List, leb, length, Result, Ok, Err}
+use Rattle.stirling.specs.Refusal.{refuse, ◌then◌, unless, number}
+use Rattle.stirling.specs.declared.Refusal.{Refusal}
 use Rattle.stirling.specs.Count.{check_size}
 use Rattle.stirling.specs.declared.Counted.{Counted}
 use Rattle.perm.specs.Lists.{some, positions}
@@ -37,3 +38,8 @@ check_rank kind s = check_permutation s then check_kind kind s
 -- the refusal, and the place; 0 on a refusal
 abbrev pub rank_of : Kind → List ℕ → Place
 rank_of kind s = record { refusal = check_rank kind s; place = unless (check_rank kind s) (place_in s (listed kind (length s))) 0 }
+
+-- a call's place as C has it: no refusal and the place, or the refusal's number and 0
+abbrev pub answer_of : Result ℕ Refusal → Place
+answer_of (Ok place) = record { refusal = 0; place = place }
+answer_of (Err refusal) = record { refusal = number refusal; place = 0 }

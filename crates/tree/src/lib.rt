@@ -2,40 +2,37 @@
 // A subtree's size is looked up, so that no call goes through the list: at most n steps down, each past at most n positions.
 #![tactic(auto)]
 
-ghost use Rattle.std.specs.Prelude.{◌≡◌, suc, ◌+◌, ◌-◌, ◌^◌, ◌≤◌, ◌<◌, cond, length, get_or};
-ghost use Rattle.perm.specs.Permutation.{IsPermutation, exchange};
+ghost use Rattle.std.specs.Prelude.{◌≡◌, suc, ◌+◌, ◌-◌, ◌^◌, ◌≤◌, ◌<◌, length, get_or};
+ghost use Rattle.stirling.specs.Refusal.{number, refusal_in};
+ghost use Rattle.stirling.specs.Count.{counted};
+ghost use Rattle.perm.specs.Permutation.{IsPermutation};
 ghost use Rattle.perm.specs.Cycle.{least};
 ghost use Rattle.perm.specs.Array.{product};
 ghost use Rattle.tree.specs.Involution.{longer};
 ghost use Rattle.tree.specs.Bell.{rises};
 ghost use Rattle.tree.specs.Kind.{rule_of, listed, breaks, refusal_of, IsOf};
 ghost use Rattle.tree.specs.Listing.{row_at, place_in};
-ghost use Rattle.tree.specs.Calls.{count_of, check_unrank, written_by, check_kind, check_rank, rank_of};
+ghost use Rattle.tree.specs.Calls.{count_of, check_unrank, written_by, check_kind, check_rank, rank_of, answer_of};
 ghost use Rattle.tree.specs.Sizes.{usable_below, size, index, IsTable};
-ghost use Rattle.tree.specs.Search.{rows, count_usable, place_from, Stands, Falls, Leads, Down, Along};
+ghost use Rattle.tree.specs.Search.{rows, count_usable, Stands, Falls, Leads};
 
-use perm::REFUSED_LENT;
-use stirling::{Counted, REFUSED_PLACE};
-
-// A cycle is longer than two.
-pub const REFUSED_LONG: u8 = 15;
-
-// A cycle does not fall from its highest number to its lowest.
-pub const REFUSED_RISING: u8 = 16;
+use stirling::Refusal;
 
 // The kinds: involutions, which have no cycle longer than two, and Bell permutations, whose cycles fall from their highest number to their lowest.
+// The kind is a value, and no trait with two types: `count`, `unrank` and `rank` take it, and the exported calls choose it.
 #[derive(Clone, Copy)]
 pub enum Kind {
     Involution,
     Bell,
 }
 
-// The identity of 20; its first n values are that of n.
+// The identity of 20; its first n values are that of n. One array for all, since there is no heap.
 const IDENTITY: [u8; 20] = [
     1, 2, 3, 4, 5, 6, 7, 8, 9, 10, 11, 12, 13, 14, 15, 16, 17, 18, 19, 20,
 ];
 
 // The rows of a subtree with f positions that may be used and m that remain, at (f + m)(f + m + 1)/2 + f, in the list of involutions.
+// This table and the next are arrays of all 231 sizes, f + m being 20 at most: memory is fixed, and there is no heap.
 const INVOLUTION_SIZES: [u64; 231] = [
     1,
     1,
@@ -505,7 +502,7 @@ const BELL_SIZES: [u64; 231] = [
     1,
 ];
 
-// The place of a permutation, or a refusal with 0.
+// The place of a permutation as C has it, or a refusal's number with 0.
 #[repr(C)]
 #[derive(Drop)]
 pub struct Place {
@@ -513,334 +510,52 @@ pub struct Place {
     pub place: u64,
 }
 
-// A step down the tree: the position that is exchanged with the next one, which is that one itself where nothing is, and the place that is left.
-#[derive(Drop)]
-struct Step {
-    position: usize,
-    place: u64,
-}
+impl From<Result<u64, Refusal>> for Place {
+    ghost from_gives = { λ given answer. answer ≡ answer_of given };
 
-// What a step down leads to: the positions that may then be used, and the place that is left.
-#[derive(Drop)]
-struct Next {
-    usable: u64,
-    place: u64,
-}
-
-// What a step along an array leads to: the positions that may then be used; and the rows of the children passed, and whether it was to a child.
-#[derive(Drop)]
-struct Passed {
-    usable: u64,
-    before: u64,
-    child: bool,
-}
-
-// The table of a kind's sizes, to be made once in a call and lent.
-fn table(kind: Kind) -> [u64; 231]
-    ensures { IsTable kind result }
-{
-    match kind {
-        Kind::Involution => INVOLUTION_SIZES,
-        Kind::Bell => BELL_SIZES,
-    }
-}
-
-// What a table has for so many positions that may be used and so many that remain.
-fn size_of(sizes: &[u64], usable: u64, remaining: u64) -> u64
-    requires { (length sizes.now ≡ 231) × (usable + remaining ≤ 20) }
-    ensures { result ≡ get_or sizes.now (index usable remaining) 0 }
-{
-    let sum = usable + remaining;
-    let at = sum * (sum + 1) / 2 + usable;
-    sizes[at as usize]
-}
-
-// How many rows the list of n has.
-fn count_of(kind: Kind, sizes: &[u64], n: u64) -> u64
-    requires { IsTable kind sizes.now × (n ≤ 20) }
-    ensures { result ≡ length (listed kind n) }
-{
-    size_of(sizes, 0, n)
-}
-
-// One less, and 0 for 0.
-fn less_one(x: u64) -> u64
-    ensures { result ≡ x - 1 }
-{
-    if x == 0 {
-        return 0;
-    }
-    x - 1
-}
-
-// The positions that may be used below a child: one that has its own value is used up, and the least of a cycle stays the least.
-fn usable_below(kind: Kind, usable: u64) -> u64
-    ensures { result ≡ usable_below kind usable }
-{
-    match kind {
-        Kind::Involution => less_one(usable),
-        Kind::Bell => usable,
-    }
-}
-
-// Whether position l may be used. In a Bell permutation the least of a cycle is the position whose value is not smaller.
-fn is_usable(kind: Kind, s: &[u8], l: usize) -> bool
-    requires { (1 ≤ l) × (l ≤ length s.now) × IsOf kind (length s.now) s.now }
-    ensures { result ≡ rule_of kind s.now l }
-{
-    let value = s[l - 1] as usize;
-    match kind {
-        Kind::Involution => value == l,
-        Kind::Bell => value >= l,
-    }
-}
-
-// How many of the positions 1 to h may be used.
-fn count_usable(kind: Kind, s: &[u8], h: usize) -> u64
-    requires { (h ≤ length s.now) × (length s.now ≤ 20) × IsOf kind (length s.now) s.now }
-    ensures { result ≡ count_usable kind s.now h }
-{
-    let mut count = 0;
-    let mut l = 0;
-    while l < h {
-        l += 1;
-        if is_usable(kind, s, l) {
-            count += 1;
+    fn from(given: Result<u64, Refusal>) -> Place {
+        match given {
+            Ok(place) => Place { refusal: 0, place },
+            Err(refusal) => Place {
+                refusal: refusal.number(),
+                place: 0,
+            },
         }
     }
-    count
 }
 
-// The values at positions a and b exchanged.
-fn swap(s: &mut [u8], a: usize, b: usize)
-    requires { (1 ≤ a) × (a ≤ length s.old) × (1 ≤ b) × (b ≤ length s.old) }
-    ensures { s.new ≡ exchange a b s.old }
-{
-    let value = s[a - 1];
-    s[a - 1] = s[b - 1];
-    s[b - 1] = value;
+// Where a place falls to: to a child, which exchanges this position with the first that remains, or behind all children; and the place that is left there.
+#[derive(Drop)]
+enum Step {
+    Child { position: usize, place: u64 },
+    Behind { place: u64 },
 }
 
-// How many rows a child's subtree has.
-fn child_size(kind: Kind, sizes: &[u64], remaining: usize, usable: u64) -> u64
-    requires { IsTable kind sizes.now × (1 ≤ remaining) × (usable + remaining ≤ 20) }
-    ensures { result ≡ size kind (usable_below kind usable) (remaining - 1) }
-{
-    size_of(sizes, usable_below(kind, usable), remaining as u64 - 1)
-}
-
-// The positions that may be used after a step: behind all children the next position may be used too.
-fn usable_after(kind: Kind, usable: u64, child: bool) -> u64
-    requires { usable ≤ 20 }
-    ensures { result ≡ cond child (usable_below kind usable) (suc usable) }
-{
-    if child {
-        return usable_below(kind, usable);
-    }
-    usable + 1
-}
-
-// The place that is left after a step: behind all children s itself stands first, as it did before them.
-fn place_after(place: u64, child: bool) -> u64
-    requires { suc place < 2 ^ 64 }
-    ensures { result ≡ cond child place (suc place) }
-{
-    if child {
-        return place;
-    }
-    place + 1
-}
-
-// The place before a step, from the place after it and the rows of the children that it passes.
-fn place_before(before: u64, place: u64, child: bool) -> u64
-    requires { place_from before place child < 2 ^ 64 }
-    ensures { result ≡ place_from before place child }
-{
-    if child {
-        return before + place + 1;
-    }
-    if place == 0 {
-        return 0;
-    }
-    before + place
-}
-
-// Which child a place falls to, where each child that exchanges one of the positions 1 to h has so many rows: past each, the place is so much less.
-fn child_at(kind: Kind, s: &[u8], h: usize, size: u64, place: u64) -> Step
-    requires { (h ≤ length s.now) × (length s.now ≤ 20) × IsOf kind (length s.now) s.now }
-    ensures { Falls kind s.now h size place result }
-{
-    let mut rest = place;
-    let mut l = 1;
-    while l <= h {
-        if is_usable(kind, s, l) {
-            if rest < size {
-                return Step {
-                    position: l,
-                    place: rest,
-                };
-            }
-            rest -= size;
-        }
-        l += 1;
-    }
-    Step {
-        position: l,
-        place: rest,
-    }
-}
-
-// A step to where a place lies, behind s itself: in the subtree of a child, or behind the children that exchange the next position.
-fn step_down(
-    kind: Kind,
-    sizes: &[u64],
+// A subtree by what its size depends on: how many positions remain that its rows exchange, and how many of those before them may be used. Together they are 20 at most, as
+// far as the table goes.
+#[derive(Clone, Copy)]
+struct Branch {
     remaining: usize,
-    usable: u64,
-    place: u64,
-    s: &mut [u8],
-) -> Next
-    requires { IsTable kind sizes.now × Stands kind remaining usable s.old × (1 ≤ remaining) × (1 ≤ place) × (place < size kind usable remaining) }
-    ensures { Down kind remaining place s.old result s.new }
-{
-    let h = s.len() - remaining;
-    let step = child_at(
-        kind,
-        s,
-        h,
-        child_size(kind, sizes, remaining, usable),
-        place - 1,
-    );
-    let child = step.position <= h;
-    swap(s, step.position, h + 1);
-    Next {
-        usable: usable_after(kind, usable, child),
-        place: place_after(step.place, child),
-    }
+    usable: usize,
+    ghost small: { usable + remaining ≤ 20 },
 }
 
-// The row at a place of s and what hangs below it, put in the place of s; place 0 is s itself.
-fn unrank_from(kind: Kind, sizes: &[u64], remaining: usize, usable: u64, place: u64, s: &mut [u8])
-    requires table { IsTable kind sizes.now }
-    requires stands { Stands kind remaining usable s.old × (place < size kind usable remaining) }
-    ensures { s.new ≡ row_at (rows (rule_of kind) (length s.old - remaining) remaining s.old) place }
-{
-    if place == 0 {
-        return;
-    }
-    let next = step_down(kind, sizes, remaining, usable, place, s);
-    unrank_from(kind, sizes, remaining - 1, next.usable, next.place, s)
-}
-
-// A step along a transposition array: its next exchange names the child, and the rows of the children before it are passed.
-fn step_along(
+// A kind with the table of its sizes, to be made once in a call and lent.
+#[derive(Drop)]
+struct Table {
     kind: Kind,
-    sizes: &[u64],
-    a: &[u8],
-    remaining: usize,
-    usable: u64,
-    s: &mut [u8],
-) -> Passed
-    requires { IsTable kind sizes.now × Stands kind remaining usable s.old × (1 ≤ remaining) × (length a.now ≡ length s.old) × Leads kind a.now (length s.old - remaining) s.old }
-    ensures { Along kind a.now remaining usable s.old result s.new }
-{
-    let h = s.len() - remaining;
-    let position = a[h] as usize;
-    let child = position <= h;
-    let before = count_usable(kind, s, position - 1) * child_size(kind, sizes, remaining, usable);
-    swap(s, position, h + 1);
-    Passed {
-        usable: usable_after(kind, usable, child),
-        before,
-        child,
-    }
-}
-
-// The place of the permutation of a transposition array among s, to which its first exchanges lead, and what hangs below it.
-fn rank_from(
-    kind: Kind,
-    sizes: &[u64],
-    a: &[u8],
-    remaining: usize,
-    usable: u64,
-    s: &mut [u8],
-) -> u64
-    requires table { IsTable kind sizes.now }
-    requires stands { Stands kind remaining usable s.old × (length a.now ≡ length s.old) × Leads kind a.now (length s.old - remaining) s.old }
-    ensures { (result < size kind usable remaining) × (row_at (rows (rule_of kind) (length s.old - remaining) remaining s.old) result ≡ product a.now) }
-{
-    if remaining == 0 {
-        return 0;
-    }
-    let step = step_along(kind, sizes, a, remaining, usable, s);
-    let place = rank_from(kind, sizes, a, remaining - 1, step.usable, s);
-    place_before(step.before, place, step.child)
-}
-
-// Check 1, then how many permutations of n of the kind there are.
-pub fn count(kind: Kind, n: u64) -> Counted
-    ensures { result ≡ count_of kind n }
-{
-    let refusal = stirling::check_size(n);
-    if refusal != 0 {
-        return Counted { refusal, count: 0 };
-    }
-    let sizes = table(kind);
-    Counted {
-        refusal: 0,
-        count: count_of(kind, &sizes, n),
-    }
-}
-
-// Check 1, then check 3 by this list's count, then check 5 for a slice of so many bytes.
-fn check_unrank(kind: Kind, sizes: &[u64], n: u64, place: u64, lent: usize) -> u8
-    requires { IsTable kind sizes.now }
-    ensures { result ≡ check_unrank kind n place lent }
-{
-    let refusal = stirling::check_size(n);
-    if refusal != 0 {
-        return refusal;
-    }
-    if place >= count_of(kind, sizes, n) {
-        return REFUSED_PLACE;
-    }
-    if lent as u64 != n {
-        return REFUSED_LENT;
-    }
-    0
-}
-
-// The row at a place of the list, for as many values as the slice has bytes.
-fn write_row(kind: Kind, sizes: &[u64], place: u64, out: &mut [u8])
-    requires { IsTable kind sizes.now × (length out.old ≤ 20) × (place < size kind 0 (length out.old)) }
-    ensures { out.new ≡ row_at (listed kind (length out.old)) place }
-{
-    let n = out.len();
-    // the search begins with the identity, which is its own transposition array
-    perm::from_array(&IDENTITY[..n], out);
-    unrank_from(kind, sizes, n, 0, place, out)
-}
-
-// The permutation at a place of the list of n, written to `out`. Refusals 1, 3, 5; a refused call writes nothing.
-pub fn unrank(kind: Kind, n: u64, place: u64, out: &mut [u8]) -> u8
-    ensures refusal { result ≡ check_unrank kind n place (length out.old) }
-    ensures row { out.new ≡ written_by kind n place result out.old }
-{
-    let sizes = table(kind);
-    let refusal = check_unrank(kind, &sizes, n, place, out.len());
-    if refusal != 0 {
-        return refusal;
-    }
-    write_row(kind, &sizes, place, out);
-    0
+    sizes: [u64; 231],
+    ghost holds_sizes: { IsTable kind sizes },
 }
 
 // Whether the cycle of position i is longer than two: two steps do not lead back to it.
+// Here and below, the permutation is a lent slice: a struct around it would be one of perm's, public, and would say no more than the line that asks for one, or for one of the kind.
 fn is_longer(s: &[u8], i: usize) -> bool
     requires { (length s.now ≤ 20) × IsPermutation (length s.now) s.now × (1 ≤ i) × (i ≤ length s.now) }
     ensures { result ≡ longer s.now i }
 {
-    let next = s[i - 1] as usize;
-    s[next - 1] as usize != i
+    let next = usize::from(s[i - 1]);
+    usize::from(s[next - 1]) != i
 }
 
 // Whether position i is the least of its cycle, which is followed as far as it can go.
@@ -849,13 +564,11 @@ fn is_least(s: &[u8], i: usize) -> bool
     ensures { result ≡ least s.now i }
 {
     let mut position = i;
-    let mut t = 0;
-    while t < s.len() {
-        position = s[position - 1] as usize;
+    for _step in 0..s.len() {
+        position = usize::from(s[position - 1]);
         if position < i {
             return false;
         }
-        t += 1;
     }
     true
 }
@@ -865,82 +578,274 @@ fn is_rising(s: &[u8], i: usize) -> bool
     requires { (length s.now ≤ 20) × IsPermutation (length s.now) s.now × (1 ≤ i) × (i ≤ length s.now) }
     ensures { result ≡ rises s.now i }
 {
-    if (s[i - 1] as usize) < i {
-        return false;
-    }
-    !is_least(s, i)
+    usize::from(s[i - 1]) >= i && !is_least(s, i)
 }
 
-// Whether position i keeps a permutation from being of the kind.
-fn is_broken(kind: Kind, s: &[u8], i: usize) -> bool
-    requires { (length s.now ≤ 20) × IsPermutation (length s.now) s.now × (1 ≤ i) × (i ≤ length s.now) }
-    ensures { result ≡ breaks kind s.now i }
-{
-    match kind {
-        Kind::Involution => is_longer(s, i),
-        Kind::Bell => is_rising(s, i),
-    }
-}
-
-// What a permutation that is not of the kind is refused.
-fn refusal_of(kind: Kind) -> u8
-    ensures { result ≡ refusal_of kind }
-{
-    match kind {
-        Kind::Involution => REFUSED_LONG,
-        Kind::Bell => REFUSED_RISING,
-    }
-}
-
-// Check 15 or 16, where checks 1, 6 and 7 do not refuse.
-fn check_kind(kind: Kind, s: &[u8]) -> u8
-    requires { (length s.now ≤ 20) × IsPermutation (length s.now) s.now }
-    ensures { result ≡ check_kind kind s.now }
-{
-    let mut i = 0;
-    while i < s.len() {
-        if is_broken(kind, s, i + 1) {
-            return refusal_of(kind);
+impl Kind {
+    // Whether position l may be used. In a Bell permutation the least of a cycle is the position whose value is not smaller.
+    fn is_usable(self, s: &[u8], l: usize) -> bool
+        requires { (1 ≤ l) × (l ≤ length s.now) × IsOf self (length s.now) s.now }
+        ensures { result ≡ rule_of self s.now l }
+    {
+        let value = usize::from(s[l - 1]);
+        match self {
+            Kind::Involution => value == l,
+            Kind::Bell => value >= l,
         }
-        i += 1;
     }
-    0
+
+    // How many of the positions 1 to h may be used.
+    fn count_usable(self, s: &[u8], h: usize) -> usize
+        requires { (h ≤ length s.now) × (length s.now ≤ 20) × IsOf self (length s.now) s.now }
+        ensures { result ≡ count_usable self s.now h }
+    {
+        (1..=h).filter(|l| self.is_usable(s, *l)).count()
+    }
+
+    // Which child a place falls to, where each child that exchanges one of the positions 1 to h has so many rows: past each, the place is so much less.
+    fn child_at(self, s: &[u8], h: usize, size: u64, place: u64) -> Step
+        requires { (h ≤ length s.now) × (length s.now ≤ 20) × IsOf self (length s.now) s.now }
+        ensures { Falls self s.now h size place result }
+    {
+        let mut rest = place;
+        for l in 1..=h {
+            if self.is_usable(s, l) {
+                if rest < size {
+                    return Step::Child {
+                        position: l,
+                        place: rest,
+                    };
+                }
+                rest -= size;
+            }
+        }
+        Step::Behind { place: rest }
+    }
+
+    // Whether position i keeps a permutation from being of the kind.
+    fn is_broken(self, s: &[u8], i: usize) -> bool
+        requires { (length s.now ≤ 20) × IsPermutation (length s.now) s.now × (1 ≤ i) × (i ≤ length s.now) }
+        ensures { result ≡ breaks self s.now i }
+    {
+        match self {
+            Kind::Involution => is_longer(s, i),
+            Kind::Bell => is_rising(s, i),
+        }
+    }
+
+    // What a permutation that is not of the kind is refused.
+    fn refusal(self) -> Refusal
+        ensures { number result ≡ refusal_of self }
+    {
+        match self {
+            Kind::Involution => Refusal::Long,
+            Kind::Bell => Refusal::Rising,
+        }
+    }
+
+    // Check 15 or 16, where checks 1, 6 and 7 do not refuse.
+    fn check(self, s: &[u8]) -> Result<(), Refusal>
+        requires { (length s.now ≤ 20) × IsPermutation (length s.now) s.now }
+        ensures { refusal_in result ≡ check_kind self s.now }
+    {
+        if (1..=s.len()).any(|i| self.is_broken(s, i)) {
+            return Err(self.refusal());
+        }
+        Ok(())
+    }
+
+    // Checks 1, 6, 7, and 15 or 16.
+    fn check_rank(self, s: &[u8]) -> Result<(), Refusal>
+        ensures { refusal_in result ≡ check_rank self s.now }
+    {
+        perm::check_permutation(s)?;
+        self.check(s)
+    }
 }
 
-// Checks 1, 6, 7, and 15 or 16.
-fn check_rank(kind: Kind, s: &[u8]) -> u8
-    ensures { result ≡ check_rank kind s.now }
-{
-    let refusal = perm::check_permutation(s);
-    if refusal != 0 {
-        return refusal;
+impl Branch {
+    // What the identity of n heads: all positions remain, and there is none before them.
+    fn whole(n: usize) -> Self
+        requires { n ≤ 20 }
+        ensures remaining { result.remaining ≡ n }
+        ensures usable { result.usable ≡ 0 }
+    {
+        Branch {
+            remaining: n,
+            usable: 0,
+        }
     }
-    check_kind(kind, s)
+
+    // What a child heads. Where its position has its own value it is used up, and the least of a cycle stays the least. That a position remains is asked here and at the
+    // other two that go on, and is not kept by the branch, since at the last one none does.
+    fn child(self, kind: Kind) -> Self
+        requires { 1 ≤ self.remaining }
+        ensures remaining { result.remaining ≡ self.remaining - 1 }
+        ensures usable { result.usable ≡ usable_below kind self.usable }
+    {
+        Branch {
+            remaining: self.remaining - 1,
+            usable: match kind {
+                Kind::Involution => self.usable.saturating_sub(1),
+                Kind::Bell => self.usable,
+            },
+        }
+    }
+
+    // What stands behind all children: the next position may be used too.
+    fn behind(self) -> Self
+        requires { 1 ≤ self.remaining }
+        ensures remaining { result.remaining ≡ self.remaining - 1 }
+        ensures usable { result.usable ≡ suc self.usable }
+    {
+        Branch {
+            remaining: self.remaining - 1,
+            usable: self.usable + 1,
+        }
+    }
 }
 
-// The place of a permutation of the kind, found along its transposition array.
-fn place_of(kind: Kind, s: &[u8]) -> u64
-    requires { (length s.now ≤ 20) × IsOf kind (length s.now) s.now }
-    ensures { result ≡ place_in s.now (listed kind (length s.now)) }
+impl Table {
+    // The table of a kind.
+    fn of(kind: Kind) -> Self
+        ensures { result.kind ≡ kind }
+    {
+        Table {
+            kind,
+            sizes: match kind {
+                Kind::Involution => INVOLUTION_SIZES,
+                Kind::Bell => BELL_SIZES,
+            },
+        }
+    }
+
+    // How many rows a branch has.
+    fn size(&self, branch: Branch) -> u64
+        ensures { result ≡ size self.now.kind branch.usable branch.remaining }
+    {
+        let sum = branch.usable + branch.remaining;
+        self.sizes[sum * (sum + 1) / 2 + branch.usable]
+    }
+
+    // Check 1, then how many rows the list of n has.
+    fn count(&self, n: u64) -> Result<u64, Refusal>
+        ensures { counted result ≡ count_of self.now.kind n }
+    {
+        stirling::check_size(n)?;
+        Ok(self.size(Branch::whole(n as usize)))
+    }
+
+    // How many rows a child in it heads.
+    fn child_size(&self, branch: Branch) -> u64
+        requires { 1 ≤ branch.remaining }
+        ensures { result ≡ size self.now.kind (usable_below self.now.kind branch.usable) (branch.remaining - 1) }
+    {
+        self.size(branch.child(self.kind))
+    }
+
+    // The row at a place of s and what hangs below it, put in the place of s; place 0 is s itself.
+    fn unrank_from(&self, branch: Branch, place: u64, s: &mut [u8])
+        requires { Stands self.now.kind branch.remaining branch.usable s.old × (place < size self.now.kind branch.usable branch.remaining) }
+        ensures { s.new ≡ row_at (rows (rule_of self.now.kind) (length s.old - branch.remaining) branch.remaining s.old) place }
+    {
+        if place == 0 {
+            return;
+        }
+        let h = s.len() - branch.remaining;
+        match self.kind.child_at(s, h, self.child_size(branch), place - 1) {
+            Step::Child { position, place } => {
+                s.swap(position - 1, h);
+                self.unrank_from(branch.child(self.kind), place, s)
+            }
+            // s itself stands first there, as it did before the children
+            Step::Behind { place } => self.unrank_from(branch.behind(), place + 1, s),
+        }
+    }
+
+    // The place of the permutation of a transposition array among s, to which its first exchanges lead, and what hangs below it. The array's next exchange names the child.
+    fn rank_from(&self, a: &[u8], branch: Branch, s: &mut [u8]) -> u64
+        requires { Stands self.now.kind branch.remaining branch.usable s.old × (length a.now ≡ length s.old) × Leads self.now.kind a.now (length s.old - branch.remaining) s.old }
+        ensures { (result < size self.now.kind branch.usable branch.remaining) × (row_at (rows (rule_of self.now.kind) (length s.old - branch.remaining) branch.remaining s.old) result ≡ product a.now) }
+    {
+        if branch.remaining == 0 {
+            return 0;
+        }
+        let h = s.len() - branch.remaining;
+        let position = usize::from(a[h]);
+        let passed = self.kind.count_usable(s, position - 1) as u64 * self.child_size(branch);
+        if position <= h {
+            s.swap(position - 1, h);
+            return passed + self.rank_from(a, branch.child(self.kind), s) + 1;
+        }
+        let place = self.rank_from(a, branch.behind(), s);
+        if place == 0 {
+            // s itself stands before the children
+            return 0;
+        }
+        passed + place
+    }
+
+    // Check 1, then check 3 by this list's count, then check 5 for a slice of so many bytes.
+    fn check_unrank(&self, n: u64, place: u64, lent: usize) -> Result<(), Refusal>
+        ensures { refusal_in result ≡ check_unrank self.now.kind n place lent }
+    {
+        if place >= self.count(n)? {
+            return Err(Refusal::Place);
+        }
+        if lent as u64 != n {
+            return Err(Refusal::Lent);
+        }
+        Ok(())
+    }
+
+    // The row at a place of the list, for as many values as the slice has bytes.
+    fn write_row(&self, place: u64, out: &mut [u8])
+        requires { (length out.old ≤ 20) × (place < size self.now.kind 0 (length out.old)) }
+        ensures { out.new ≡ row_at (listed self.now.kind (length out.old)) place }
+    {
+        let n = out.len();
+        // the search begins with the identity, which is its own transposition array and so is never refused; by the call and no copy, since what it writes is what `product` says
+        perm::from_array(&IDENTITY[..n], out).unwrap();
+        self.unrank_from(Branch::whole(n), place, out)
+    }
+
+    // The place of a permutation of the kind, found along its transposition array.
+    fn place_of(&self, s: &[u8]) -> u64
+        requires { (length s.now ≤ 20) × IsOf self.now.kind (length s.now) s.now }
+        ensures { result ≡ place_in s.now (listed self.now.kind (length s.now)) }
+    {
+        let n = s.len();
+        // room for the largest n, since there is no heap
+        let mut array = [0u8; 20];
+        // never refused: s is a permutation, and the array as long
+        perm::to_array(s, &mut array[..n]).unwrap();
+        let mut row = IDENTITY;
+        self.rank_from(&array[..n], Branch::whole(n), &mut row[..n])
+    }
+}
+
+// Check 1, then how many permutations of n of the kind there are.
+pub fn count(kind: Kind, n: u64) -> Result<u64, Refusal>
+    ensures { counted result ≡ count_of kind n }
 {
-    let n = s.len();
-    let mut array = [0u8; 20];
-    perm::to_array(s, &mut array[..n]);
-    let sizes = table(kind);
-    let mut row = IDENTITY;
-    rank_from(kind, &sizes, &array[..n], n, 0, &mut row[..n])
+    Table::of(kind).count(n)
+}
+
+// The permutation at a place of the list of n, written to `out`. Refusals 1, 3, 5; a refused call writes nothing.
+pub fn unrank(kind: Kind, n: u64, place: u64, out: &mut [u8]) -> Result<(), Refusal>
+    ensures refusal { refusal_in result ≡ check_unrank kind n place (length out.old) }
+    ensures row { out.new ≡ written_by kind n place (refusal_in result) out.old }
+{
+    let table = Table::of(kind);
+    table.check_unrank(n, place, out.len())?;
+    table.write_row(place, out);
+    Ok(())
 }
 
 // The place of a permutation in the list of n, where n is the slice's length. Refusals 1, 6, 7, and 15 or 16.
-pub fn rank(kind: Kind, s: &[u8]) -> Place
-    ensures { result ≡ rank_of kind s.now }
+pub fn rank(kind: Kind, s: &[u8]) -> Result<u64, Refusal>
+    ensures { answer_of result ≡ rank_of kind s.now }
 {
-    let refusal = check_rank(kind, s);
-    if refusal != 0 {
-        return Place { refusal, place: 0 };
-    }
-    Place {
-        refusal: 0,
-        place: place_of(kind, s),
-    }
+    kind.check_rank(s)?;
+    Ok(Table::of(kind).place_of(s))
 }

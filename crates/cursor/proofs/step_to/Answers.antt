@@ -1,15 +1,15 @@
 -- `cursor::step_to` meets its contract: the first n bytes of the old and the new record are the machine's rows and their arrays. Assumes nothing.
 use mathlib.Core.Path.{◌≡◌, sym, ap, ◌∙◌}
 use Prim.Native.Nat.{◌≤◌}
-use native.Mathlib.Omega.{arith}
 use lib.ListN.{length, take}
-use lib.Seq.{length-take-le}
-use Rattle.perm.specs.Permutation.{distance}
+use Rattle.std.specs.List.{zip, count_by}
+use Rattle.cursor.proofs.Scans.{apart, differs_in_all}
+use Rattle.perm.proofs.Distance.{length_array}
 use Rattle.perm.specs.Array.{array_of, entries_changed}
 use Rattle.cursor.specs.Machine.{row_of, moved}
 use Rattle.cursor.specs.Walk.{machine_of}
 use Rattle.cursor.proofs.Calls.{OnPlace, on_moved, on_passes}
-use Rattle.cursor.proofs.Sound.{sound_on, sound-shows}
+use Rattle.cursor.proofs.Sound.{sound_on}
 use Rattle.cursor.proofs.Reported.{sound-row, sound_array}
 use Rattle.cursor.proofs.Steps.{row_permutation}
 use Rattle.cursor.proofs.Padding.{length-shown, take-shown, length-shown_array, take-shown_array}
@@ -59,47 +59,18 @@ counted : (c : After-differences-changed)
     (row_of (machine_of c.args.w))
     (row_of (moved (machine_of c.args.w) c.args.place))
 counted c =
-    let old_array' : take c.args.w.n c.args.w.array ≡ array_of c.args.w.n (row_of (machine_of c.args.w)) =
-    sound_array c.args.w c.requires.0 in
-    let after = on_moved (machine_of c.args.w) (sound_on c.args.w c.requires.0) c.args.place c.requires.1 in
-    let new_array' : take c.args.w.n c.cursor_at-cursor.result.array ≡ array_of c.args.w.n (row_of (moved (machine_of c.args.w) c.args.place)) =
-    ap (λ w. take c.args.w.n w.array) c.cursor_at-cursor.ensures ∙ take-shown_array (moved (machine_of c.args.w) c.args.place) after in
-    let old = old_array' in
-    let new = new_array' in
-    c.differences-changed.ensures ∙ (λ i. distance (old i) (new i))
+    let m = machine_of c.args.w in
+    let on = sound_on c.args.w c.requires.0 in
+    let there = moved m c.args.place in
+    let after = on_moved m on c.args.place c.requires.1 in
+    let old = sound_array c.args.w c.requires.0 in
+    let new : take c.args.w.n c.cursor_at-cursor.result.array ≡ array_of c.args.w.n (row_of there) =
+    ap (λ w. take c.args.w.n w.array) c.cursor_at-cursor.ensures ∙ take-shown_array there after in
+    let as_long = length_array (row_permutation m on) ∙ sym (length_array (row_permutation there after)) in
+    c.differences-changed.ensures ∙ (λ i. count_by apart (zip (old i) (new i))) ∙ differs_in_all _ _ as_long
 
 pub cursor_at-cursor-requires : goal.cursor_at-cursor-requires
 cursor_at-cursor-requires c = on_passes (moved (machine_of c.args.w) c.args.place) (after_on c)
-
-pub slice_bounds-before-end : goal.slice_bounds-before-end
-slice_bounds-before-end c =
-    omega (arith, ap (λ w. length w.array) (sound-shows c.args.w c.requires.0), length-shown_array (machine_of c.args.w) (before_on (goal.at.slice_bounds-before-end c).Start))
-
-pub slice_bounds-differences-end : goal.slice_bounds-differences-end
-slice_bounds-differences-end c =
-    sym (length-take-le _ _ (omega (arith, ap (λ w. length w.array) (sound-shows c.args.w c.requires.0), length-shown_array (machine_of c.args.w) (before_on (goal.at.slice_bounds-differences-end c).Start))))
-
-pub slice_bounds-after-end : goal.slice_bounds-after-end
-slice_bounds-after-end c = made_array (goal.at.slice_bounds-after-end c).After-cursor_at-cursor
-
-pub slice_bounds-differences-end-2 : goal.slice_bounds-differences-end-2
-slice_bounds-differences-end-2 c =
-    sym (length-take-le _ _ (made_array (goal.at.slice_bounds-differences-end-2 c).After-cursor_at-cursor))
-
-pub slice_bounds-old-end : goal.slice_bounds-old-end
-slice_bounds-old-end c =
-    omega (arith, ap (λ w. length w.perm) (sound-shows c.args.w c.requires.0), length-shown (machine_of c.args.w) (before_on (goal.at.slice_bounds-old-end c).Start))
-
-pub slice_bounds-step_between-end : goal.slice_bounds-step_between-end
-slice_bounds-step_between-end c =
-    sym (length-take-le _ _ (omega (arith, ap (λ w. length w.perm) (sound-shows c.args.w c.requires.0), length-shown (machine_of c.args.w) (before_on (goal.at.slice_bounds-step_between-end c).Start))))
-
-pub slice_bounds-new-end : goal.slice_bounds-new-end
-slice_bounds-new-end c = made_row (goal.at.slice_bounds-new-end c).After-cursor_at-cursor
-
-pub slice_bounds-step_between-end-2 : goal.slice_bounds-step_between-end-2
-slice_bounds-step_between-end-2 c =
-    sym (length-take-le _ _ (made_row (goal.at.slice_bounds-step_between-end-2 c).After-cursor_at-cursor))
 
 pub step_between-answer-requires : goal.step_between-answer-requires
 step_between-answer-requires c =

@@ -1,23 +1,23 @@
-use native.Mathlib.Omega.{arith}
-use mathlib.Core.Path.{sym}
+-- `find::check_pattern` meets its contract: what is asked of each wish is the test that check 6 counts by. Assumes nothing.
+use mathlib.Core.Path.{◌≡◌, sym, ◌∙◌}
 use lib.Dec.{ltb}
-use lib.ListN.{get_or}
-use borrow.Author.Tests.{lt-ltb, le-ltb}
+use borrow.Author.Tests.{tests}
+use Rattle.std.proofs.Common.{rules}
+use Rattle.std.proofs.lemmas.Iterator.{YieldsList-from_slice}
+use Rattle.std.proofs.lemmas.Iterator.Search.{any_from_yields_List}
 use Rattle.stirling.proofs.Refusals.{refuse_applies, refuse_passes}
-use Rattle.perm.proofs.Search.{passed, found, exhausted}
+use Rattle.perm.specs.Lists.{some}
+use Rattle.find.proofs.Patterns.{some-any}
+use Rattle.find.proofs.check_pattern.Goals.{After-any}
 use Rattle.find.proofs.check_pattern.Goals as goal
 
-pub returns-then-pattern-i : goal.returns-then-pattern-i
-returns-then-pattern-i c =
-    let w = c.args.pattern.now in
-    sym (refuse_applies _ 6 (found (ltb c.args.n) w c.loop-i.i c.loop-i.invariant (omega arith) (lt-ltb _ (get_or w c.loop-i.i 0) (omega arith))))
+above : (c : After-any) → c.any.result ≡ some (ltb c.args.n) c.args.pattern.now
+above c =
+    any_from_yields_List (ltb c.args.n) _ _ c.any.result c.any.ensures.ran (YieldsList-from_slice c.args.pattern.now cc) (λ x b q k. search (rules, tests))
+    ∙ some-any (ltb c.args.n) c.args.pattern.now
 
-pub loop-i-preserved : goal.loop-i-preserved
-loop-i-preserved c =
-    let w = c.args.pattern.now in
-    passed (ltb c.args.n) w c.loop-i.i c.loop-i.invariant (omega arith) (le-ltb _ (get_or w c.loop-i.i 0) (omega arith))
+pub returns-then-any : goal.returns-then-any
+returns-then-any c = sym (refuse_applies _ 6 (sym (above (goal.at.returns-then-any c).After-any) ∙ c.if-any.true))
 
 pub returns : goal.returns
-returns c =
-    let w = c.args.pattern.now in
-    sym (refuse_passes _ 6 (exhausted (ltb c.args.n) w c.loop-i.i c.loop-i.invariant (omega arith)))
+returns c = sym (refuse_passes _ 6 (sym (above (goal.at.returns c).After-any) ∙ c.if-any.false))

@@ -1,47 +1,57 @@
 -- `find::find` meets its contract: the checks of what is asked, the least place, and the row there. Assumes nothing.
+use mathlib.Core.Path.{◌≡◌, refl, sym, ◌∙◌}
 use Prim.Native.Nat.{ℕ}
-use native.Mathlib.Omega.{arith}
-use mathlib.Core.Path.{◌≡◌, sym, ap, ◌∙◌}
 use lib.ListN.{length}
-use Rattle.stirling.specs.Count.{c}
-use Rattle.gray.specs.Order.{S}
-use Rattle.find.specs.Meeting.{meets, least_from}
-use Rattle.find.specs.Find.{check_asked}
-use Rattle.find.proofs.Answered.{asked-passed, find-unmet, below_all, find-met, row_written}
-use Rattle.find.proofs.find.Goals.{After-entry, Else-refusal-ne0}
+use native.Mathlib.Omega.{arith}
+use Rattle.std.specs.Option.{ok_or}
+use Rattle.std.specs.Result.{IsOk}
+use Rattle.std.proofs.Common.{Option, Some, None, Result, Ok, Err}
+use Rattle.std.proofs.lemmas.Result.{err_from_is_err_and}
+use Rattle.stirling.specs.Refusal.{refusal_in}
+use Rattle.stirling.specs.declared.Refusal.{Refusal}
+use Rattle.stirling.specs.declared.Refusal.TheVariants.{Unmet}
+use Rattle.find.proofs.Answered.{asked, asked-passed, answers-unmet, answers-met, place_below, row_passes, row_written}
 use Rattle.find.proofs.find.Goals as goal
 
--- they pass
-passed : (c : Else-refusal-ne0) → let a = c.args in check_asked a.n a.k a.place a.pattern.now (length a.out.now) ≡ 0
-passed c = sym c.check_asked-refusal.ensures ∙ c.if-refusal-ne0.false
+-- no place is a refusal of the wishes
+unmet : (o : Option ℕ) {e : Refusal} → Err e ≡ ok_or o Unmet → (o ≡ None) × (e ≡ Unmet)
+unmet (Some x) q = absurd cc
+unmet None q = (refl, cc)
 
-is-count : (q : After-entry) → let a = q.args in q.entry.result ≡ c a.n a.k
-is-count q =
-    let passed' : let a = q.args in check_asked a.n a.k a.place a.pattern.now (length a.out.now) ≡ 0 =
-    sym q.check_asked-refusal.ensures ∙ q.if-refusal-ne0.false in
-    let a = q.args in
-    q.entry.ensures ∙ q.table-counts.ensures.holds a.n a.k (asked-passed a.n a.k a.place a.pattern.now (length a.out.now) (passed')).0
+-- what has no refusal's number has an answer
+served : {A : Type 0} (r : Result A Refusal) → refusal_in r ≡ 0 → IsOk r
+served (Ok answer) q = refl
+served (Err refusal) q = grind arith
 
--- whether it is one of the rows
-not_all : (q : After-entry) → (q.least_place-found.result ≡ q.entry.result → ⊥)
-    → let a = q.args in least_from (meets a.pattern.now) (S a.n a.k) a.place ≡ c a.n a.k → ⊥
-not_all q d e = d (q.least_place-found.ensures ∙ e ∙ sym (is-count q))
+pub unwrap-requires : goal.unwrap-requires
+unwrap-requires c =
+    let a = c.args in
+    let passed = asked a.n a.k a.place a.pattern.now (length a.out.now) c.table-counts.ensures c.in_ok-check_place_in.ensures c.in_ok-check_slices.ensures in
+    let (small, _, _, lent) = asked-passed a.n a.k a.place a.pattern.now (length a.out.now) passed in
+    served c.unrank.result (row_passes small (place_below a.n a.k a.place a.pattern.now (length a.out.now) passed (sym c.in_ok-found.ensures.ok_part ∙ c.least_place.ensures)) lent c.unrank.ensures)
 
-pub returns-then-found-entry-clause-answer : goal.returns-then-found-entry-clause-answer
-returns-then-found-entry-clause-answer c = let a = c.args in
-    let all = sym c.least_place-found.ensures ∙ c.if-found-entry.true ∙ is-count (goal.at.returns-then-found-entry-clause-answer c).After-entry in
-    c.refused-then-found-entry.ensures ∙ find-unmet a.n a.k a.place a.pattern.now (length a.out.now) (passed (goal.at.returns-then-found-entry-clause-answer c).Else-refusal-ne0) all
+pub least_place-requires : goal.least_place-requires
+least_place-requires c =
+    let a = c.args in
+    let (small, below, size, _) = asked-passed a.n a.k a.place a.pattern.now (length a.out.now) (asked a.n a.k a.place a.pattern.now (length a.out.now) c.table-counts.ensures c.in_ok-check_place_in.ensures c.in_ok-check_slices.ensures) in
+    record { table = c.table-counts.ensures; n_bound = (small, below, size) }
+
+pub returns-in_err-found-clause-answer : goal.returns-in_err-found-clause-answer
+returns-in_err-found-clause-answer c =
+    let a = c.args in
+    let (none, is) = unmet c.least_place.result c.in_err-found.ensures.value in
+    let p = err_from_is_err_and c.from_residual-in_err-found.result c.from_residual-in_err-found.ensures.1 in
+    rw (p.1, p.2, is)
+    (answers-unmet a.n a.k a.place a.pattern.now (length a.out.now) (asked a.n a.k a.place a.pattern.now (length a.out.now) c.table-counts.ensures c.in_ok-check_place_in.ensures c.in_ok-check_slices.ensures) (sym none ∙ c.least_place.ensures))
 
 pub returns-clause-answer : goal.returns-clause-answer
-returns-clause-answer c = let a = c.args in
-    let z = passed (goal.at.returns-clause-answer c).Else-refusal-ne0 in
-    let d = not_all (goal.at.returns-clause-answer c).After-entry c.if-found-entry.false in
-    let (small, below, size, lent) = asked-passed a.n a.k a.place a.pattern.now (length a.out.now) z in
-    let e = c.least_place-found.ensures in ap (λ (x : ℕ). record { refusal = 0; place = x }) e ∙ find-met a.n a.k a.place a.pattern.now (length a.out.now) z d
+returns-clause-answer c =
+    let a = c.args in
+    answers-met a.n a.k a.place a.pattern.now (length a.out.now) (asked a.n a.k a.place a.pattern.now (length a.out.now) c.table-counts.ensures c.in_ok-check_place_in.ensures c.in_ok-check_slices.ensures) (sym c.in_ok-found.ensures.ok_part ∙ c.least_place.ensures)
 
 pub returns-clause-row : goal.returns-clause-row
-returns-clause-row c = let a = c.args in
-    let z = passed (goal.at.returns-clause-row c).Else-refusal-ne0 in
-    let d = not_all (goal.at.returns-clause-row c).After-entry c.if-found-entry.false in
-    let (small, below, size, lent) = asked-passed a.n a.k a.place a.pattern.now (length a.out.now) z in
-    let e = c.least_place-found.ensures in row_written small (omega (arith, e, below_all a.n a.k a.place a.pattern.now (length a.out.now) z d)) lent c.unrank.ensures
+returns-clause-row c =
+    let a = c.args in
+    let passed = asked a.n a.k a.place a.pattern.now (length a.out.now) c.table-counts.ensures c.in_ok-check_place_in.ensures c.in_ok-check_slices.ensures in
+    let (small, _, _, lent) = asked-passed a.n a.k a.place a.pattern.now (length a.out.now) passed in
+    row_written small (place_below a.n a.k a.place a.pattern.now (length a.out.now) passed (sym c.in_ok-found.ensures.ok_part ∙ c.least_place.ensures)) lent c.unrank.ensures

@@ -20,20 +20,20 @@ module _ (n j : ℕ) (h : 5 ≤ n) where
   past : n - 1 ≤ j → block (blocks_of_a n) j ≡ E 0
   past l = past-run (suc (suc (j - (n - 1)))) (omega arith)
 
-pub returns-then-j-eq0 : goal.returns-then-j-eq0
-returns-then-j-eq0 c = sym (first-a c.args.n c.args.j (omega arith) c.if-j-eq0.true)
+pub returns-in-0 : goal.returns-in-0
+returns-in-0 c = sym (first-a c.args.n c.args.j (omega arith) c.in-0.is)
 
-pub returns-then-j-n : goal.returns-then-j-n
-returns-then-j-n c = sym (in-run _ _ c.if-n-lt5.false (omega arith) c.if-j-n.true)
+pub returns-in_default : goal.returns-in_default
+returns-in_default c = sym (in-run _ _ c.if-n-lt5.false (omega arith) c.if-j-n.true)
 
-pub returns-then-j-n-2 : goal.returns-then-j-n-2
-returns-then-j-n-2 c =
+pub returns-in_default-2 : goal.returns-in_default-2
+returns-in_default-2 c =
     sym (past-run c.args.n c.args.j c.if-n-lt5.false 0 (omega arith))
 
-pub returns-then-j-n-3 : goal.returns-then-j-n-3
-returns-then-j-n-3 c =
+pub returns-in_default-3 : goal.returns-in_default-3
+returns-in_default-3 c =
     sym (past-run c.args.n c.args.j c.if-n-lt5.false 1 (omega arith))
 
-pub returns : goal.returns
-returns c =
+pub returns-in_default-4 : goal.returns-in_default-4
+returns-in_default-4 c =
     sym (past c.args.n c.args.j c.if-n-lt5.false (omega arith))

@@ -1,19 +1,12 @@
 -- `gray::block_a4` meets its contract: the blocks of (a) for n up to 4 are written out. Assumes nothing.
 use mathlib.Core.Path.{◌≡◌, refl, sym}
-use Prim.Native.Nat.{ℕ, zero, suc, ◌+◌, ◌-◌, ◌≤◌, ◌<◌}
+use Prim.Native.Nat.{ℕ, zero, suc, ◌-◌, ◌≤◌, ◌<◌}
 use native.Mathlib.Omega.{arith}
 use lib.ListN.{length, get_or-eq_default}
-use Rattle.gray.specs.declared.Block.TheVariants.{Insert as I, Extend as E}
+use Rattle.gray.specs.declared.Block.TheVariants.{Extend as E}
 use Rattle.gray.specs.Blocks.{blocks_of_a}
 use Rattle.gray.proofs.Indexed.{block, first-a}
 use Rattle.gray.proofs.block_a4.Goals as goal
-
-none : (n j : ℕ) → n < 2 → block (blocks_of_a n) j ≡ E 0
-unfolding blocks_of_a
-none zero j h = refl
-none (suc zero) zero h = refl
-none (suc zero) (suc j) h = refl
-none (suc (suc n)) j h = absurd (omega arith)
 
 count : (n : ℕ) → 2 ≤ n → n < 5 → length (blocks_of_a n) ≡ n - 1
 unfolding blocks_of_a
@@ -24,29 +17,42 @@ count (suc (suc (suc zero))) h l = refl
 count (suc (suc (suc (suc zero)))) h l = refl
 count (suc (suc (suc (suc (suc n))))) h l = absurd (omega arith)
 
-second : (n j : ℕ) → n ≡ 3 → j ≡ 1 → block (blocks_of_a n) j ≡ I 2 0
+past : (n j : ℕ) → n < 5 → n - 1 ≤ j → block (blocks_of_a n) j ≡ E 0
 unfolding blocks_of_a
-second n j h l = rw (h, l)
+past zero j h l = refl
+past (suc zero) zero h l = refl
+past (suc zero) (suc j) h l = refl
+past (suc (suc n)) j h l = get_or-eq_default (blocks_of_a (suc (suc n))) (E 0) (rw (count (suc (suc n)) (omega arith) h) l)
 
-later : (n j : ℕ) → n ≡ 4 → (j ≡ 0 → ⊥) → j < 3 → block (blocks_of_a n) j ≡ I (j + 1) 1
+pub returns-in-2-to-4-eq0 : goal.returns-in-2-to-4-eq0
+returns-in-2-to-4-eq0 c = sym (first-a c.args.n c.args.j (omega arith) (omega arith))
+
+pub returns-in-2-to-4-eq0-2 : goal.returns-in-2-to-4-eq0-2
+returns-in-2-to-4-eq0-2 c = sym (first-a c.args.n c.args.j (omega arith) (omega arith))
+
+pub returns-in-2-to-4-eq0-3 : goal.returns-in-2-to-4-eq0-3
+returns-in-2-to-4-eq0-3 c = sym (first-a c.args.n c.args.j (omega arith) (omega arith))
+
+pub returns-in-3-eq1 : goal.returns-in-3-eq1
 unfolding blocks_of_a
-later n zero h l g = absurd (l refl)
-later n (suc zero) h l g = rw h
-later n (suc (suc zero)) h l g = rw h
-later n (suc (suc (suc j))) h l g = absurd (omega arith)
+returns-in-3-eq1 c = rw (c.in-3-eq1.is-0, c.in-3-eq1.is-1)
 
-pub returns-then-n-lt2 : goal.returns-then-n-lt2
-returns-then-n-lt2 c = sym (none _ _ c.if-n-lt2.true)
+pub returns-in-4-eq1 : goal.returns-in-4-eq1
+unfolding blocks_of_a
+returns-in-4-eq1 c = rw (c.in-4-eq1.is-0, c.in-4-eq1.is-1)
 
-pub returns-then-n-j : goal.returns-then-n-j
-returns-then-n-j c =
-    sym (get_or-eq_default (blocks_of_a c.args.n) (E 0) (rw (count c.args.n (omega arith) (omega arith)) c.if-n-j.true))
+pub returns-in-4-eq2 : goal.returns-in-4-eq2
+unfolding blocks_of_a
+returns-in-4-eq2 c = rw (c.in-4-eq2.is-0, c.in-4-eq2.is-1)
 
-pub returns-then-j-eq0 : goal.returns-then-j-eq0
-returns-then-j-eq0 c = sym (first-a c.args.n c.args.j (omega arith) c.if-j-eq0.true)
+pub returns-in_default : goal.returns-in_default
+returns-in_default c = sym (past _ _ c.requires (omega arith))
 
-pub returns-then-n-eq3 : goal.returns-then-n-eq3
-returns-then-n-eq3 c = sym (second _ _ c.if-n-eq3.true (omega arith))
+pub returns-in_default-2 : goal.returns-in_default-2
+returns-in_default-2 c = sym (past _ _ c.requires (omega arith))
 
-pub returns : goal.returns
-returns c = sym (later c.args.n c.args.j (omega arith) c.if-j-eq0.false (omega arith))
+pub returns-in_default-3 : goal.returns-in_default-3
+returns-in_default-3 c = sym (past _ _ c.requires (omega arith))
+
+pub returns-in_default-4 : goal.returns-in_default-4
+returns-in_default-4 c = sym (past _ _ c.requires (omega arith))

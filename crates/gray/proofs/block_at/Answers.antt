@@ -1,4 +1,5 @@
 -- `gray::block_at` meets its contract: the letter picks the relation, whose blocks are those of S(n,k). Assumes nothing.
+use mathlib.Core.Logic.{⊎_elim}
 use mathlib.Core.Path.{◌≡◌, sym, ◌∙◌}
 use Prim.Native.Nat.{ℕ}
 use Rattle.gray.specs.declared.Letter.{Letter}
@@ -16,42 +17,40 @@ picked n k j e = rw e
 
 pub block_c-requires : goal.block_c-requires
 block_c-requires c =
-    said c.args.n c.args.k (sym c.letter_of-letter.ensures ∙ c.in-C.is)
+    said c.args.n c.args.k (sym c.letter_of.ensures ∙ c.in-C.is)
 
 pub block_d-requires : goal.block_d-requires
 block_d-requires c =
-    said c.args.n c.args.k (sym c.letter_of-letter.ensures ∙ c.in-D.is)
+    said c.args.n c.args.k (sym c.letter_of.ensures ∙ c.in-D.is)
 
 pub block_e-requires : goal.block_e-requires
 block_e-requires c =
-    said c.args.n c.args.k (sym c.letter_of-letter.ensures ∙ c.in-E.is)
+    said c.args.n c.args.k (sym c.letter_of.ensures ∙ c.in-E.is)
 
 pub returns-in-Nothing : goal.returns-in-Nothing
 unfolding blocks_of
 returns-in-Nothing c =
-    picked c.args.n c.args.k c.args.j (sym c.letter_of-letter.ensures ∙ c.in-Nothing.is)
+    ⊎_elim
+    (λ e. picked c.args.n c.args.k c.args.j (sym c.letter_of.ensures ∙ e))
+    (λ e. single c.args.j ∙ picked c.args.n c.args.k c.args.j (sym c.letter_of.ensures ∙ e))
+    c.in-Nothing.is
 
 pub returns-in-A : goal.returns-in-A
 unfolding blocks_of
 returns-in-A c =
-    c.block_a.ensures ∙ picked c.args.n c.args.k c.args.j (sym c.letter_of-letter.ensures ∙ c.in-A.is)
-
-pub returns-in-B : goal.returns-in-B
-unfolding blocks_of
-returns-in-B c =
-    single c.args.j ∙ picked c.args.n c.args.k c.args.j (sym c.letter_of-letter.ensures ∙ c.in-B.is)
+    c.block_a.ensures ∙ picked c.args.n c.args.k c.args.j (sym c.letter_of.ensures ∙ c.in-A.is)
 
 pub returns-in-C : goal.returns-in-C
 unfolding blocks_of
 returns-in-C c =
-    c.block_c.ensures ∙ picked c.args.n c.args.k c.args.j (sym c.letter_of-letter.ensures ∙ c.in-C.is)
+    c.block_c.ensures ∙ picked c.args.n c.args.k c.args.j (sym c.letter_of.ensures ∙ c.in-C.is)
 
 pub returns-in-D : goal.returns-in-D
 unfolding blocks_of
 returns-in-D c =
-    c.block_d.ensures ∙ picked c.args.n c.args.k c.args.j (sym c.letter_of-letter.ensures ∙ c.in-D.is)
+    c.block_d.ensures ∙ picked c.args.n c.args.k c.args.j (sym c.letter_of.ensures ∙ c.in-D.is)
 
 pub returns-in-E : goal.returns-in-E
 unfolding blocks_of
 returns-in-E c =
-    c.block_e.ensures ∙ picked c.args.n c.args.k c.args.j (sym c.letter_of-letter.ensures ∙ c.in-E.is)
+    c.block_e.ensures ∙ picked c.args.n c.args.k c.args.j (sym c.letter_of.ensures ∙ c.in-E.is)

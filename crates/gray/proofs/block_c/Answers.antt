@@ -38,22 +38,22 @@ module _ (n j : ℕ) (h : 3 ≤ n) (g : n ≡ 3 → ⊥) where
       let m : n - 1 ≤ j = omega arith in
       past-run (suc (suc (j - n))) (omega arith)
 
-pub returns-then-j-n : goal.returns-then-j-n
-returns-then-j-n c =
+pub returns-in_default-2 : goal.returns-in_default-2
+returns-in_default-2 c =
     let g = c.if-n-eq3.false in
     sym (rw (long c.args.n c.args.j c.requires g) (in-run c.args.n c.args.j c.requires g (c.args.j - 1) (omega arith) (omega arith) c.if-j-n.true))
 
-pub returns-then-j-n-2 : goal.returns-then-j-n-2
-returns-then-j-n-2 c =
+pub returns-in_default-3 : goal.returns-in_default-3
+returns-in_default-3 c =
     let g = c.if-n-eq3.false in
     sym (rw (long c.args.n c.args.j c.requires g) (past-run c.args.n c.args.j c.requires g 0 (omega arith)))
 
-pub returns-then-j-n-3 : goal.returns-then-j-n-3
-returns-then-j-n-3 c =
+pub returns-in_default-4 : goal.returns-in_default-4
+returns-in_default-4 c =
     let g = c.if-n-eq3.false in
     sym (rw (long c.args.n c.args.j c.requires g) (past-run c.args.n c.args.j c.requires g 1 (next _ c.requires c.if-j-n-3.true)))
 
-pub returns : goal.returns
-returns c =
+pub returns-in_default-5 : goal.returns-in_default-5
+returns-in_default-5 c =
     let g = c.if-n-eq3.false in
     sym (rw (long c.args.n c.args.j c.requires g) (past c.args.n c.args.j c.requires g c.if-j-n.false c.if-j-n-2.false c.if-j-n-3.false))

@@ -6,9 +6,6 @@ use Rattle.gray.proofs.block_count.Goals as goal
 pub returns-then-k-eq0 : goal.returns-then-k-eq0
 returns-then-k-eq0 c = counted _ _ _ (search rules)
 
-pub returns-then-k-n : goal.returns-then-k-n
-returns-then-k-n c = counted _ _ _ (search rules)
-
 pub returns-then-n-k : goal.returns-then-n-k
 returns-then-n-k c = counted _ _ _ (search rules)
 

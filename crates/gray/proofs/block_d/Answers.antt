@@ -24,11 +24,11 @@ module _ (n j : ℕ) (h : 4 ≤ n) where
   extends : n - 2 ≤ j → (j ≡ n - 1 → ⊥) → block (blocks_d n) j ≡ E 0
   extends l g = past-run (j - (n - 2)) (omega arith) ∙ last (j - (n - 2)) (λ e. g (omega arith))
 
-pub returns-then-j-n : goal.returns-then-j-n
-returns-then-j-n c = sym (in-run _ _ c.requires (omega arith) c.if-j-n.true)
+pub returns-in_default : goal.returns-in_default
+returns-in_default c = sym (in-run _ _ c.requires (omega arith) c.if-j-n.true)
 
-pub returns-then-j-n-2 : goal.returns-then-j-n-2
-returns-then-j-n-2 c = sym (past-run c.args.n c.args.j c.requires 1 (omega arith))
+pub returns-in_default-2 : goal.returns-in_default-2
+returns-in_default-2 c = sym (past-run c.args.n c.args.j c.requires 1 (omega arith))
 
-pub returns : goal.returns
-returns c = sym (extends c.args.n c.args.j c.requires (omega arith) c.if-j-n-2.false)
+pub returns-in_default-3 : goal.returns-in_default-3
+returns-in_default-3 c = sym (extends c.args.n c.args.j c.requires (omega arith) c.if-j-n-2.false)

@@ -32,14 +32,14 @@ module _ (n k j : ℕ) (h : (2 ≤ k) × (k + 3 ≤ n)) where
       let i = j - (n - k + 1) in
       past-run (suc i) (omega arith) ∙ get_or-eq_default (lower k) (E 0) {n = i} (rw length-falling (omega arith))
 
-pub returns-then-j-n : goal.returns-then-j-n
-returns-then-j-n c = sym (in-run _ c.args.k _ c.requires (omega arith) c.if-j-n.true)
+pub returns-in_default : goal.returns-in_default
+returns-in_default c = sym (in-run _ c.args.k _ c.requires (omega arith) c.if-j-n.true)
 
-pub returns-then-j-n-2 : goal.returns-then-j-n-2
-returns-then-j-n-2 c = sym (past-run c.args.n _ c.args.j c.requires 0 (omega arith))
+pub returns-in_default-2 : goal.returns-in_default-2
+returns-in_default-2 c = sym (past-run c.args.n _ c.args.j c.requires 0 (omega arith))
 
-pub returns-then-j-n-3 : goal.returns-then-j-n-3
-returns-then-j-n-3 c = sym (in-lower c.args.n c.args.k c.args.j c.requires (omega arith) c.if-j-n-3.true)
+pub returns-in_default-3 : goal.returns-in_default-3
+returns-in_default-3 c = sym (in-lower c.args.n c.args.k c.args.j c.requires (omega arith) c.if-j-n-3.true)
 
-pub returns : goal.returns
-returns c = sym (past-lower _ c.args.k c.args.j c.requires c.if-j-n-3.false)
+pub returns-in_default-4 : goal.returns-in_default-4
+returns-in_default-4 c = sym (past-lower _ c.args.k c.args.j c.requires c.if-j-n-3.false)

@@ -1,11 +1,6 @@
 -- `inversion::write_sequence` meets its contract. The loop's invariant is `Made`: the sequence of the first m entries is made. Assumes nothing.
-use Prim.Native.Nat.{◌-◌}
-use lib.ListN.{length}
 use Rattle.inversion.proofs.Steps.{Made}
 use Rattle.inversion.proofs.write_sequence.Given as goal
 
 abbrev pub invariant-loop-m : goal.invariant-loop-m
 invariant-loop-m l = Made l.a l.out l.m
-
-abbrev pub decreases-loop-m : goal.decreases-loop-m
-decreases-loop-m l = length l.a - l.m

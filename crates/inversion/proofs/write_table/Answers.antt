@@ -1,7 +1,16 @@
 use native.Mathlib.Omega.{arith}
-use Rattle.inversion.proofs.Tables.{higher_few}
+use mathlib.Core.Path.{◌≡◌, ◌∙◌}
+use Prim.Native.Nat.{◌+◌}
+use Rattle.inversion.specs.Table.{higher}
+use Rattle.inversion.proofs.Steps.{written_step, counted-higher}
+use Rattle.inversion.proofs.write_table.Goals.{After-count_higher}
 use Rattle.inversion.proofs.write_table.Goals as goal
 
-pub overflow_add-out : goal.overflow_add-out
-overflow_add-out c =
-    omega (arith, c.requires.0, c.higher_before.ensures, higher_few c.args.q.now c.loop-i.i)
+-- the number of earlier elements that are higher
+counted : (c : After-count_higher) → c.count_higher.result ≡ higher c.args.q.now (c.loop-i.i + 1)
+counted c =
+    c.count_higher.ensures ∙ counted-higher c.args.q.now c.loop-i.i (omega arith)
+
+pub loop-i-preserved : goal.loop-i-preserved
+loop-i-preserved c =
+    written_step c.loop-i.i c.count_higher.result (omega arith) (counted (goal.at.loop-i-preserved c).After-count_higher) c.loop-i.invariant

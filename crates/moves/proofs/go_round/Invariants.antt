@@ -5,8 +5,8 @@ use lib.ListN.{length}
 use Rattle.moves.proofs.Going.{Going}
 use Rattle.moves.proofs.go_round.Given as goal
 
-abbrev pub invariant-loop-x : goal.invariant-loop-x
-invariant-loop-x l = Going l.s l.a l.initial.state l.initial.out l.state l.out l.size l.x
+abbrev pub invariant-loop-wanted : goal.invariant-loop-wanted
+invariant-loop-wanted l = Going l.s l.a l.initial.state l.initial.out l.state l.out l.size l.x
 
-abbrev pub decreases-loop-x : goal.decreases-loop-x
-decreases-loop-x l = 2 * length l.s + 2 - l.size
+abbrev pub decreases-loop-wanted : goal.decreases-loop-wanted
+decreases-loop-wanted l = 2 * length l.s + 2 - l.size

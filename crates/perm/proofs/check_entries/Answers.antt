@@ -5,7 +5,6 @@ use mathlib.Core.Bool.{true, false}
 use lib.ListN.{length, get_or}
 use Rattle.stirling.proofs.Refusals.{refuse_applies, refuse_passes}
 use Rattle.stirling.specs.Refusal.{within}
-use Rattle.perm.specs.Permutation.{at}
 use Rattle.perm.proofs.Search.{passed-position, found-position, exhausted-positions}
 use Rattle.perm.proofs.check_entries.Invariants.{outside}
 use Rattle.perm.proofs.check_entries.Goals.{After-in_range}

@@ -1,5 +1,5 @@
 -- `perm::check_entries` meets its contract. The loop's invariant: all that the test of check 6 counts is counted from position i + 1 on. Assumes nothing.
-use Prim.Native.Nat.{ℕ, ◌-◌}
+use Prim.Native.Nat.{ℕ}
 use mathlib.Core.Path.{◌≡◌}
 use mathlib.Core.Bool.{Bool, not}
 use mathlib.Core.List.{List}
@@ -15,6 +15,3 @@ outside a i = not (within 1 i (at a i))
 
 abbrev pub invariant-loop-i : goal.invariant-loop-i
 invariant-loop-i l = tally (outside l.a) (positions (length l.a)) ≡ tally (outside l.a) (drop l.i (positions (length l.a)))
-
-abbrev pub decreases-loop-i : goal.decreases-loop-i
-decreases-loop-i l = length l.a - l.i

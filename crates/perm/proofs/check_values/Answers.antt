@@ -1,4 +1,3 @@
-use Prim.Native.Nat.{◌-◌}
 use native.Mathlib.Omega.{arith}
 use mathlib.Core.Path.{sym, refl, ◌≡◌}
 use mathlib.Core.Bool.{true, false}
@@ -11,16 +10,16 @@ use Rattle.perm.proofs.check_values.Goals as goal
 pub returns-then-not-in_range : goal.returns-then-not-in_range
 returns-then-not-in_range c =
     let s = c.args.s.now in
-    let test : outside s (get_or s c.loop-i.i 0) ≡ true = rw (← c.in_range.ensures, c.if-not-in_range.true) refl in
-    sym (refuse_applies _ 6 (found (outside s) s c.loop-i.i c.loop-i.invariant (omega arith) test))
+    let test : outside s (get_or s c.loop-v.v-index 0) ≡ true = rw (← c.in_range.ensures, c.if-not-in_range.true) refl in
+    sym (refuse_applies _ 6 (found (outside s) s c.loop-v.v-index c.loop-v.invariant (omega arith) test))
 
-pub loop-i-preserved : goal.loop-i-preserved
-loop-i-preserved c =
+pub loop-v-preserved : goal.loop-v-preserved
+loop-v-preserved c =
     let s = c.args.s.now in
-    let test : outside s (get_or s c.loop-i.i 0) ≡ false = rw (← c.in_range.ensures, c.if-not-in_range.false) refl in
-    passed (outside s) s c.loop-i.i c.loop-i.invariant (omega arith) test
+    let test : outside s (get_or s c.loop-v.v-index 0) ≡ false = rw (← c.in_range.ensures, c.if-not-in_range.false) refl in
+    passed (outside s) s c.loop-v.v-index c.loop-v.invariant (omega arith) test
 
 pub returns : goal.returns
 returns c =
     let s = c.args.s.now in
-    sym (refuse_passes _ 6 (exhausted (outside s) s c.loop-i.i c.loop-i.invariant (omega arith)))
+    sym (refuse_passes _ 6 (exhausted (outside s) s c.loop-v.v-index c.loop-v.invariant (omega arith)))

@@ -1,5 +1,5 @@
 -- `perm::check_values` meets its contract. The loop's invariant: all that the test of check 6 counts is counted from index i on. Assumes nothing.
-use Prim.Native.Nat.{ℕ, ◌-◌}
+use Prim.Native.Nat.{ℕ}
 use mathlib.Core.Path.{◌≡◌}
 use mathlib.Core.Bool.{Bool, not}
 use mathlib.Core.List.{List}
@@ -12,8 +12,5 @@ use Rattle.perm.proofs.check_values.Given as goal
 abbrev pub outside : List ℕ → ℕ → Bool
 outside s v = not (within 1 (length s) v)
 
-abbrev pub invariant-loop-i : goal.invariant-loop-i
-invariant-loop-i l = tally (outside l.s) l.s ≡ tally (outside l.s) (drop l.i l.s)
-
-abbrev pub decreases-loop-i : goal.decreases-loop-i
-decreases-loop-i l = length l.s - l.i
+abbrev pub invariant-loop-v : goal.invariant-loop-v
+invariant-loop-v l = tally (outside l.s) l.s ≡ tally (outside l.s) (drop l.v-index l.s)

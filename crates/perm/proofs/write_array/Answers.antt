@@ -1,4 +1,4 @@
-use Prim.Native.Nat.{◌≤◌, ◌<◌}
+use Prim.Native.Nat.{◌+◌, ◌-◌, ◌≤◌, ◌<◌}
 use native.Mathlib.Omega.{arith}
 use mathlib.Core.Path.{◌≡◌}
 use lib.ListN.{length, get_or}
@@ -18,16 +18,20 @@ there : (c : In-loop-m)
     × (get_or c.loop-m.out (get_or c.loop-m.index c.loop-m.m 0) 0 ≡ c.loop-m.m)
 there c = let b = c.loop-m in index-found b.m b.invariant.0.rest b.invariant.1 (omega arith)
 
-pub bounds-index-wide : goal.bounds-index-wide
-bounds-index-wide c =
-    let b = c.loop-m in
-    rw c.wide.ensures (omega (arith, lengths (goal.at.bounds-index-wide c).In-loop-m, last-bound b.m b.invariant.0.rest b.invariant.1 (omega arith)))
+-- the index after that of the place that is filled
+next : (c : In-loop-m) → c.loop-m.m - 1 + 1 ≡ c.loop-m.m
+next c = omega arith
 
-pub bounds-out-wide : goal.bounds-out-wide
-bounds-out-wide c = rw c.wide-in-loop-m.ensures (omega (arith, there (goal.at.bounds-out-wide c).In-loop-m, lengths (goal.at.bounds-out-wide c).In-loop-m))
+pub bounds-index-from : goal.bounds-index-from
+bounds-index-from c =
+    let b = c.loop-m in
+    rw c.from.ensures (omega (arith, lengths (goal.at.bounds-index-from c).In-loop-m, last-bound b.m b.invariant.0.rest b.invariant.1 (omega arith)))
+
+pub bounds-out-from : goal.bounds-out-from
+bounds-out-from c = rw (c.from-in-loop-m.ensures, next (goal.at.bounds-out-from c).In-loop-m) (omega (arith, there (goal.at.bounds-out-from c).In-loop-m, lengths (goal.at.bounds-out-from c).In-loop-m))
 
 pub overflow_add-out : goal.overflow_add-out
-overflow_add-out c = omega (arith, there (goal.at.overflow_add-out c).In-loop-m, lengths (goal.at.overflow_add-out c).In-loop-m)
+overflow_add-out c = rw (next (goal.at.overflow_add-out c).In-loop-m) (omega (arith, there (goal.at.overflow_add-out c).In-loop-m, lengths (goal.at.overflow_add-out c).In-loop-m))
 
 pub loop-m-preserved : goal.loop-m-preserved
 loop-m-preserved c =
@@ -35,8 +39,8 @@ loop-m-preserved c =
     let t = there (goal.at.loop-m-preserved c).In-loop-m in
     let l = lengths (goal.at.loop-m-preserved c).In-loop-m in
     rw
-    c.wide-in-loop-m.ensures
-    (left_step b.m _ b.invariant.0 t.0 t.1, indexed-move b.m b.invariant.0.rest b.invariant.1 _ _ l.0 l.1 t.0 c.wide.ensures)
+    (c.from-in-loop-m.ensures, next (goal.at.loop-m-preserved c).In-loop-m)
+    (left_step b.m _ b.invariant.0 t.0 t.1, indexed-move b.m b.invariant.0.rest b.invariant.1 _ _ l.0 l.1 t.0 c.from.ensures)
 
 pub returns-clause-written : goal.returns-clause-written
 returns-clause-written c = let e : c.loop-m.m ≡ 0 = omega arith in

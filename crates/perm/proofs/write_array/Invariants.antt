@@ -5,6 +5,3 @@ use Rattle.perm.proofs.write_array.Given as goal
 
 abbrev pub invariant-loop-m : goal.invariant-loop-m
 invariant-loop-m l = Left l.s l.out l.m × Indexed l.out l.index l.m
-
-abbrev pub decreases-loop-m : goal.decreases-loop-m
-decreases-loop-m l = l.m

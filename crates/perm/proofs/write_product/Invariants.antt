@@ -1,11 +1,6 @@
 -- `perm::write_product` meets its contract. The loop's invariant is `Made`: the first m of `out` are the product of the first m entries. Assumes nothing.
-use Prim.Native.Nat.{◌-◌}
-use lib.ListN.{length}
 use Rattle.perm.proofs.Steps.{Made}
 use Rattle.perm.proofs.write_product.Given as goal
 
 abbrev pub invariant-loop-m : goal.invariant-loop-m
 invariant-loop-m l = Made l.a l.out l.m
-
-abbrev pub decreases-loop-m : goal.decreases-loop-m
-decreases-loop-m l = length l.a - l.m

@@ -5,6 +5,7 @@ use mathlib.Core.Path.{◌≡◌, refl, sym, ap, ◌∙◌}
 use lib.ListN.{length}
 use Rattle.gray.specs.Blocks.{blocks}
 use Rattle.stirling.specs.Count.{c}
+use Rattle.stirling.proofs.Counts.{fits}
 use Rattle.gray.proofs.Indexed.{block}
 use Rattle.rank.specs.declared.Stop.{Stop}
 use Rattle.rank.specs.Search.{size_of, blocks_read, IsStop, Listed, HoldsPlace}
@@ -56,38 +57,38 @@ holds t q =
 
 -- and so many of its rows are written
 here_in : (t : ℕ) (q : After-part_of-part t)
-    → let here = q.smaller-here.result in
-    (1 ≤ here) × (q.loop-stop.done + here ≤ q.args.count) × (q.args.place + q.loop-stop.done - q.loop-stop.stop.start + here ≤ c (q.args.n - 1) q.part_of-part.result.cycles)
+    → let here = q.min-here.result in
+    (1 ≤ here) × (q.loop-stop.done + here ≤ q.args.count) × (q.args.place + q.loop-stop.done - q.loop-stop.stop.start + here ≤ c (q.args.n - 1) q.part_of-part.result.below.cycles)
 here_in t q =
     let (w, h, stop, same) = at_hand t q in
     let size = part-size stop q.part_of-part.ensures same in
     let some = q.if-size-from.false in
     let more = q.loop-stop.invariant.0 in
-    let least = q.smaller-here.ensures in
+    let least = q.min-here.ensures in
     (omega arith, omega arith, omega arith)
 
 -- the part that the block's rows fill is in the slice
-room : (t : ℕ) (q : After-part_of-part t) → q.loop-stop.done * q.args.apart + q.smaller-here.result * q.args.apart ≤ length q.loop-stop.out
+room : (t : ℕ) (q : After-part_of-part t) → q.loop-stop.done * q.args.apart + q.min-here.result * q.args.apart ≤ length q.loop-stop.out
 room t q =
-    let here = q.smaller-here.result in
+    let here = q.min-here.result in
     omega (arith, add-mul q.loop-stop.done here q.args.apart, mul-le-mul_right q.args.apart (here_in t q).1, q.requires.fillable.lent, q.loop-stop.invariant.3)
 
 -- the slice after the rows below have come back is as long as it was
 back : (t : ℕ) (w : After-fill_rows t)
     → let from = w.loop-stop.done * w.args.apart in
-    let size = w.smaller-here.result * w.args.apart in
+    let size = w.min-here.result * w.args.apart in
     from + size ≤ length w.loop-stop.out → length (once from (from + size - from) w.loop-stop.out w.fill_rows.new.out) ≡ length w.loop-stop.out
-back t w r = length-once (w.loop-stop.done * w.args.apart) (w.smaller-here.result * w.args.apart) w.loop-stop.out w.fill_rows.new.out r w.fill_rows.auto.out
+back t w r = length-once (w.loop-stop.done * w.args.apart) (w.min-here.result * w.args.apart) w.loop-stop.out w.fill_rows.new.out r w.fill_rows.auto.out
 
 -- after both calls the block's rows are written too
 written : (t : ℕ) (z : After-put_apart t)
     → let a = z.args in
     let from = z.loop-stop.done * a.apart in
-    let here = z.smaller-here.result in
+    let here = z.min-here.result in
     let size = here * a.apart in
     Listed a.n a.k → IsStop a.n a.k a.backward z.loop-stop.stop
     → HoldsPlace a.n a.k a.backward (a.place + z.loop-stop.done) z.part_of-part.result
-    → (1 ≤ here) × (z.loop-stop.done + here ≤ a.count) × (a.place + z.loop-stop.done - z.loop-stop.stop.start + here ≤ c (a.n - 1) z.part_of-part.result.cycles)
+    → (1 ≤ here) × (z.loop-stop.done + here ≤ a.count) × (a.place + z.loop-stop.done - z.loop-stop.stop.start + here ≤ c (a.n - 1) z.part_of-part.result.below.cycles)
     → from + size ≤ length z.loop-stop.out
     → length (once from (from + size - from) z.loop-stop.out z.fill_rows.new.out) ≡ length z.loop-stop.out
     → let out = once from (from + size - from) (once from (from + size - from) z.loop-stop.out z.fill_rows.new.out) z.put_apart.new.out in
@@ -95,7 +96,7 @@ written : (t : ℕ) (z : After-put_apart t)
 written t z w stop holding many r same =
     let a = z.args in
     let from = z.loop-stop.done * a.apart in
-    let here = z.smaller-here.result in
+    let here = z.min-here.result in
     let size = here * a.apart in
     let f = z.requires.fillable in
     let i = z.loop-stop.invariant in
@@ -117,8 +118,8 @@ returns-then-count-eq1 t c =
     let f = c.requires.fillable in
     row_written a.backward a.n a.k a.place a.count a.apart a.out.now _ c.if-count-eq1.true f.rows f.wide f.lent c.unrank_reading.ensures.row
 
-pub sizes_of-sizes-requires-clause-listed : goal.sizes_of-sizes-requires-clause-listed
-sizes_of-sizes-requires-clause-listed t c = listed t c
+pub sizes_of-sizes-requires : goal.sizes_of-sizes-requires
+sizes_of-sizes-requires t c = record { listed = listed t c }
 
 pub loop-stop-init : goal.loop-stop-init
 loop-stop-init t c =
@@ -129,6 +130,11 @@ loop-stop-init t c =
       refl,
       none_written a.backward a.n a.k a.place a.apart a.out.now,
     )
+
+pub overflow_add-from : goal.overflow_add-from
+overflow_add-from t c =
+    let f = c.requires.fillable in
+    omega (arith, fits c.args.n c.args.k f.small, f.rows, c.loop-stop.invariant.0)
 
 pub pass-stop-requires : goal.pass-stop-requires
 pass-stop-requires t c =
@@ -162,14 +168,14 @@ fill_rows-requires t c =
     let some = (listed t (goal.at.fill_rows-requires t c).Else-count-eq1).small.0 in
     let many = here_in t (goal.at.fill_rows-requires t c).After-part_of-part in (
       omega (arith, c.decreases),
-      (c.requires.table, record { small = omega (arith, f.small); some = many.0; rows = many.2; wide = omega (arith, f.wide); lent = rw (length_lent (c.loop-stop.done * c.args.apart) (c.smaller-here.result * c.args.apart) c.loop-stop.out (room t (goal.at.fill_rows-requires t c).After-part_of-part)) (omega arith) }),
+      record { small = omega (arith, f.small); some = many.0; rows = many.2; wide = omega (arith, f.wide); lent = rw (length_lent (c.loop-stop.done * c.args.apart) (c.min-here.result * c.args.apart) c.loop-stop.out (room t (goal.at.fill_rows-requires t c).After-part_of-part)) (omega arith) },
     )
 
 pub put_apart-requires : goal.put_apart-requires
 put_apart-requires t c =
     let f = c.requires.fillable in
     let in_list = position_in (listed t (goal.at.put_apart-requires t c).Else-count-eq1).small.0 (holds t (goal.at.put_apart-requires t c).After-part_of-part) in
-    (in_list.0, in_list.1, f.small, f.wide, rw (length_lent (c.loop-stop.done * c.args.apart) (c.smaller-here.result * c.args.apart) (once (c.loop-stop.done * c.args.apart) ((c.loop-stop.done * c.args.apart) + (c.smaller-here.result * c.args.apart) - (c.loop-stop.done * c.args.apart)) c.loop-stop.out c.fill_rows.new.out) (rw (back t (goal.at.put_apart-requires t c).After-fill_rows (room t (goal.at.put_apart-requires t c).After-part_of-part)) (room t (goal.at.put_apart-requires t c).After-part_of-part))) (omega arith))
+    (in_list.0, in_list.1, f.small, f.wide, rw (length_lent (c.loop-stop.done * c.args.apart) (c.min-here.result * c.args.apart) (once (c.loop-stop.done * c.args.apart) ((c.loop-stop.done * c.args.apart) + (c.min-here.result * c.args.apart) - (c.loop-stop.done * c.args.apart)) c.loop-stop.out c.fill_rows.new.out) (rw (back t (goal.at.put_apart-requires t c).After-fill_rows (room t (goal.at.put_apart-requires t c).After-part_of-part)) (room t (goal.at.put_apart-requires t c).After-part_of-part))) (omega arith))
 
 pub returns-then-done-count : goal.returns-then-done-count
 returns-then-done-count t c =

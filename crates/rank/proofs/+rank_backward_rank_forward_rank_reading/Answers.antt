@@ -4,7 +4,6 @@ use Prim.Native.Nat.{ℕ, ◌+◌, ◌-◌, ◌*◌, ◌<◌}
 use native.Mathlib.Omega.{arith}
 use lib.ListN.{length, take}
 use lib.Seq.{length-take-le}
-use Rattle.stirling.specs.Count.{IsTable}
 use Rattle.stirling.proofs.Counts.{fits}
 use Rattle.perm.specs.Array.{product}
 use Rattle.rank.specs.Ranking.{Rankable, PlaceIn}
@@ -27,19 +26,19 @@ rank_reading-overflow_sub-last t c = some_entry c.requires.rankable c.if-n-k.fal
 pub rank_reading-bounds-a-last : goal.rank_reading-bounds-a-last
 rank_reading-bounds-a-last t c = omega (arith, some_entry c.requires.rankable c.if-n-k.false)
 
-pub rank_reading-part_with-part-requires-clause-occurs : goal.rank_reading-part_with-part-requires-clause-occurs
-rank_reading-part_with-part-requires-clause-occurs t c =
-    last-occurs c.requires.rankable (some_entry c.requires.rankable c.if-n-k.false) c.args.backward
+pub rank_reading-part_with-part-requires : goal.rank_reading-part_with-part-requires
+rank_reading-part_with-part-requires t c =
+    record { occurs = rw c.from.ensures (last-occurs c.requires.rankable (some_entry c.requires.rankable c.if-n-k.false) c.args.backward) }
 
 -- what either call asks: n falls, since n − 1 entries stand before the last, and these are an array for the list below
 asks : (t : ℕ) (c : rank_reading-After-part_with-part t)
     → let a = c.args.a.now in
-    (2 * length (take (length a - 1) a) + 1 < t) × (IsTable c.args.counts.now × Rankable (take (length a - 1) a) c.part_with-part.result.cycles)
+    (2 * length (take (length a - 1) a) + 1 < t) × Rankable (take (length a - 1) a) c.part_with-part.result.below.cycles
 asks t c =
     let a = c.args.a.now in
     let h = some_entry c.requires.rankable c.if-n-k.false in
     let size : length (take (length a - 1) a) ≡ length a - 1 = length-take-le (length a - 1) a (omega arith) in
-    (omega (arith, size, c.decreases, h), (c.requires.table, rw c.part_with-part.ensures (last-rankable c.requires.rankable h c.args.backward)))
+    (omega (arith, size, c.decreases, h), rw (c.part_with-part.ensures, c.from.ensures) (last-rankable c.requires.rankable h c.args.backward))
 
 pub rank_reading-rank_backward-below-requires : goal.rank_reading-rank_backward-below-requires
 rank_reading-rank_backward-below-requires t c = asks t (goal.at.rank_reading-rank_backward-below-requires t c).After-part_with-part
@@ -56,13 +55,13 @@ found t c =
     let h = some_entry c.requires.rankable c.if-n-k.false in
     let a = c.args.a.now in
     let q = c.part_with-part.result in
-    let both : PlaceIn q.backward (length a - 1) q.cycles (product (take (length a - 1) a)) c.if-part.below.starts
-    × (c.if-part.below.additions ≡ passed (length a - 1) q.cycles q.backward (product (take (length a - 1) a))) =
+    let both : PlaceIn q.below.backward (length a - 1) q.below.cycles (product (take (length a - 1) a)) c.if-part.below.starts
+    × (c.if-part.below.additions ≡ passed (length a - 1) q.below.cycles q.below.backward (product (take (length a - 1) a))) =
     elim c.if-part.branch [
       | rank_reading-then-part w ↦ let e = w.rank_backward-below.ensures in from-below a q h w.if-part.true w.below-is (e.place, e.counted)
       | rank_reading-else-part w ↦ let e = w.rank_forward-below.ensures in from-below a q h w.if-part.false w.below-is (e.place, e.counted)
     ] in
-    ranked c.requires.rankable h c.args.backward c.part_with-part.ensures both.0 both.1
+    ranked c.requires.rankable h c.args.backward (rw c.from.ensures at c.part_with-part.ensures) both.0 both.1
 
 pub rank_reading-overflow_add-result : goal.rank_reading-overflow_add-result
 rank_reading-overflow_add-result t c =

@@ -33,10 +33,10 @@ listed n k place other small below =
     let first : 1 ≤ n = omega arith in
     record { small = (first, small); cycles = (some first, most) }
 
-pub unrank_reading-part_at-part-requires-clause-listed : goal.unrank_reading-part_at-part-requires-clause-listed
-unrank_reading-part_at-part-requires-clause-listed t s =
+pub unrank_reading-part_at-part-requires : goal.unrank_reading-part_at-part-requires
+unrank_reading-part_at-part-requires t s =
     let r = s.requires.readable in
-    (listed s.args.n s.args.k s.args.place s.if-n-k.false r.small r.below, r.below)
+    record { listed = (listed s.args.n s.args.k s.args.place s.if-n-k.false r.small r.below, r.below) }
 
 pub unrank_reading-overflow_sub-n : goal.unrank_reading-overflow_sub-n
 unrank_reading-overflow_sub-n t s =
@@ -54,7 +54,7 @@ unrank_reading-unrank_backward-additions-requires t s =
     let r = s.requires.readable in
     let h = (listed s.args.n s.args.k s.args.place s.if-n-k.false r.small r.below).small.0 in (
       omega (arith, s.decreases, h),
-      (s.requires.table, record { small = omega (arith, r.small); below = below-part h s.part_at-part.ensures; lent = omega (arith, r.lent) }),
+      record { small = omega (arith, r.small); below = below-part h s.part_at-part.ensures; lent = omega (arith, r.lent) },
     )
 
 pub unrank_reading-unrank_forward-additions-requires : goal.unrank_reading-unrank_forward-additions-requires
@@ -62,15 +62,15 @@ unrank_reading-unrank_forward-additions-requires t s =
     let r = s.requires.readable in
     let h = (listed s.args.n s.args.k s.args.place s.if-n-k.false r.small r.below).small.0 in (
       omega (arith, s.decreases, h),
-      (s.requires.table, record { small = omega (arith, r.small); below = below-part h s.part_at-part.ensures; lent = omega (arith, r.lent) }),
+      record { small = omega (arith, r.small); below = below-part h s.part_at-part.ensures; lent = omega (arith, r.lent) },
     )
 
 -- after either call: the row below stands in front
 below : (t : ℕ) (s : unrank_reading-Joined-part t)
     → let a = s.args in
     let q = s.part_at-part.result in
-    InFront (a.n - 1) (row_at (reading_of q.backward (a.n - 1) q.cycles) (a.place - q.start)) a.out.now s.if-part.out
-    × (s.if-part.additions ≡ passed (a.n - 1) q.cycles q.backward (row_at (reading_of q.backward (a.n - 1) q.cycles) (a.place - q.start)))
+    InFront (a.n - 1) (row_at (reading_of q.below.backward (a.n - 1) q.below.cycles) (a.place - q.start)) a.out.now s.if-part.out
+    × (s.if-part.additions ≡ passed (a.n - 1) q.below.cycles q.below.backward (row_at (reading_of q.below.backward (a.n - 1) q.below.cycles) (a.place - q.start)))
 below t s =
     let a = s.args in
     let q = s.part_at-part.result in

@@ -3,17 +3,15 @@ use mathlib.Core.Path.{◌∙◌}
 use Rattle.rank.proofs.Stands.{entries-array, entries-rankable}
 use Rattle.rank.proofs.descend.Goals as goal
 
-pub descend_from-path-requires-clause-rankable : goal.descend_from-path-requires-clause-rankable
-descend_from-path-requires-clause-rankable c =
-    entries-rankable c.entries_of-entries.ensures c.if-entries-ne0.false
+pub descend_from-path-requires : goal.descend_from-path-requires
+descend_from-path-requires c =
+    record { rankable = entries-rankable c.in_ok-entries.ensures }
 
 pub returns : goal.returns
 returns c =
-    let read = c.entries_of-entries.ensures in
-    let array = entries-array read c.if-entries-ne0.false in
+    let read = c.in_ok-entries.ensures in
+    let array = entries-array read in
     record {
       refusal = read.refusal;
-      count = read.count;
-      path = λ z. c.descend_from-path.ensures.steps ∙ rw (array.array.size, array.equal, read.count z);
-      zeros = λ h. absurd (h c.if-entries-ne0.false);
+      answer = record { count = read.answer.count; path = c.descend_from-path.ensures.steps ∙ rw (array.array.size, array.equal, read.answer.count) };
     }

@@ -22,4 +22,4 @@ loop-row-init c = search rules
 pub loop-row-preserved : goal.loop-row-preserved
 loop-row-preserved c =
     let a = c.args in
-    (omega arith, search rules, put_more a.n a.i a.apart c.loop-row.row _ a.out.now c.loop-row.out _ (omega (arith, room (goal.at.loop-row-preserved c).At-loop-row (omega arith), suc-mul c.loop-row.row a.apart)) refl c.loop-row.invariant.1 c.loop-row.invariant.2 c.put_in.ensures)
+    (search rules, put_more a.n a.i a.apart c.loop-row.row _ a.out.now c.loop-row.out _ (omega (arith, room (goal.at.loop-row-preserved c).At-loop-row (omega arith), suc-mul c.loop-row.row a.apart)) refl c.loop-row.invariant.0 c.loop-row.invariant.1 c.put_in.ensures)

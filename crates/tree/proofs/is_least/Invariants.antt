@@ -1,5 +1,5 @@
 -- `tree::is_least` meets its contract. The loop's invariant: t steps lead to the position, and all that the test of `least` counts is counted from step t + 1 on. Assumes nothing.
-use Prim.Native.Nat.{ℕ, ◌-◌}
+use Prim.Native.Nat.{ℕ}
 use mathlib.Core.Path.{◌≡◌}
 use mathlib.Core.Bool.{Bool}
 use mathlib.Core.List.{List}
@@ -13,8 +13,5 @@ use Rattle.tree.proofs.is_least.Given as goal
 abbrev pub below : List ℕ → ℕ → ℕ → Bool
 below s i t = ltb (follow s t i) i
 
-abbrev pub invariant-loop-t : goal.invariant-loop-t
-invariant-loop-t l = (l.position ≡ follow l.s l.t l.i) × (tally (below l.s l.i) (positions (length l.s)) ≡ tally (below l.s l.i) (drop l.t (positions (length l.s))))
-
-abbrev pub decreases-loop-t : goal.decreases-loop-t
-decreases-loop-t l = length l.s - l.t
+abbrev pub invariant-loop-step : goal.invariant-loop-step
+invariant-loop-step l = (l.position ≡ follow l.s l._step l.i) × (tally (below l.s l.i) (positions (length l.s)) ≡ tally (below l.s l.i) (drop l._step (positions (length l.s))))

@@ -13,11 +13,11 @@ use Rattle.tree.proofs.is_longer.Goals as goal
 value : (c : Start) → let s = c.args.s.now in (1 ≤ at s c.args.i) × (at s c.args.i ≤ length s)
 value c = let p = c.requires in in_range p.1 c.args.i p.2 p.3
 
-pub overflow_sub-result : goal.overflow_sub-result
-overflow_sub-result c = omega (arith, value (goal.at.overflow_sub-result c).Start)
+pub overflow_sub-next : goal.overflow_sub-next
+overflow_sub-next c = omega (arith, c.from-next.ensures, value (goal.at.overflow_sub-next c).Start)
 
 pub bounds-s-next : goal.bounds-s-next
-bounds-s-next c = omega (arith, value (goal.at.bounds-s-next c).Start)
+bounds-s-next c = omega (arith, c.from-next.ensures, value (goal.at.bounds-s-next c).Start)
 
 pub returns : goal.returns
-returns c = sym (longer_two _ _)
+returns c = rw (c.from.ensures, c.from-next.ensures) (sym (longer_two _ _))

@@ -1,14 +1,14 @@
 -- `tree::unrank` meets its contract: a refused call writes nothing, and where no check refuses the row is written. Assumes nothing.
 use Prim.Native.Nat.{◌<◌}
-use native.Mathlib.Omega.{arith}
 use lib.ListN.{length}
 use Rattle.tree.specs.Sizes.{size}
-use mathlib.Core.Path.{sym, ◌∙◌}
+use mathlib.Core.Path.{sym}
 use Rattle.tree.proofs.Checked.{unrank_passed}
 use Rattle.tree.proofs.unrank.Goals as goal
 
 pub write_row-requires : goal.write_row-requires
 write_row-requires c =
-    let (fits, inside, long) = unrank_passed c.args.kind c.args.n c.args.place _ (sym c.check_unrank-refusal.ensures ∙ c.if-refusal-ne0.false) in
+    let kind = c.of-table.ensures in
+    let (fits, inside, long) = unrank_passed c.args.kind c.args.n c.args.place _ (rw kind at (sym c.in_ok-check_unrank.ensures)) in
     let below : c.args.place < size c.args.kind 0 (length c.args.out.now) = rw long inside in
-    (c.table-sizes.ensures, rw long fits, omega arith)
+    rw kind (rw long fits, below)
