@@ -131,17 +131,26 @@ fn block_e(n: u64, k: u64, j: u64) -> Block
     Block::Insert { position, reading }
 }
 
-// Block j of S(n,k), counted from 0; `Extend { reading: 0 }` past the last one, and no Option, since the clause of this call, which others cite, names that block.
-pub fn block_at(n: u64, k: u64, j: u64) -> Block
+// Block j of S(n,k), which this relation gives, counted from 0. Inlined, here and below, so that `block_with` goes by the relation once and makes only what its caller looks at.
+#[inline(always)]
+fn block_by(relation: Letter, n: u64, k: u64, j: u64) -> Block
+    requires { relation ≡ letter n k }
     ensures { result ≡ get_or (blocks n k) j (Block.Extend 0) }
 {
-    match letter_of(n, k) {
+    match relation {
         Letter::Nothing | Letter::B => Block::Extend { reading: 0 },
         Letter::A => block_a(n, j),
         Letter::C => block_c(n, j),
         Letter::D => block_d(n, j),
         Letter::E => block_e(n, k, j),
     }
+}
+
+// Block j of S(n,k), counted from 0; `Extend { reading: 0 }` past the last one, and no Option, since the clause of this call, which others cite, names that block.
+pub fn block_at(n: u64, k: u64, j: u64) -> Block
+    ensures { result ≡ get_or (blocks n k) j (Block.Extend 0) }
+{
+    block_by(letter_of(n, k), n, k, j)
 }
 
 // How many blocks S(n,k) has.
@@ -161,7 +170,7 @@ pub fn block_count(n: u64, k: u64) -> u64
 }
 
 // The number of the block of relation (a) that puts value n at position i; n-1 where none does. Here and at the three below i is 1 to n, a clause of each and no type,
-// since `block_number`, which alone calls them, takes every i.
+// since `number_by`, which alone calls them, takes every i.
 fn number_a(n: u64, i: u64) -> u64
     requires { (1 ≤ i) × (i ≤ n) }
     ensures { result ≡ number_in n i (blocks_of_a n) }
@@ -230,15 +239,17 @@ fn number_e(n: u64, k: u64, i: u64) -> u64
     n - i + 1
 }
 
-// The number, from 0 in written order, of the block of S(n,k) that puts value n at position i; where none does, the number of blocks, which the clause names too.
-// It is had by a formula, so that no block is looked at.
-pub fn block_number(n: u64, k: u64, i: u64) -> u64
+// The number, from 0 in written order, of the block of S(n,k), which this relation gives, that puts value n at position i; where none does, the number of blocks, which
+// the clause names too. It is had by a formula, so that no block is looked at.
+#[inline(always)]
+fn number_by(relation: Letter, n: u64, k: u64, i: u64) -> u64
+    requires { relation ≡ letter n k }
     ensures { result ≡ number_of n k i }
 {
     if i == 0 || i > n {
         return block_count(n, k);
     }
-    match letter_of(n, k) {
+    match relation {
         Letter::Nothing => 0,
         Letter::A => number_a(n, i),
         Letter::B => if i == n { 0 } else { 1 },
@@ -248,13 +259,23 @@ pub fn block_number(n: u64, k: u64, i: u64) -> u64
     }
 }
 
-// That block with its number; where no block puts n there, the one that stands for none past the last.
+// The same, where the relation is not at hand.
+pub fn block_number(n: u64, k: u64, i: u64) -> u64
+    ensures { result ≡ number_of n k i }
+{
+    number_by(letter_of(n, k), n, k, i)
+}
+
+// That block with its number; where no block puts n there, the one that stands for none past the last. The relation is looked up once for both, since `rank` asks this at
+// each size.
+#[inline(always)]
 pub fn block_with(n: u64, k: u64, i: u64) -> NumberedBlock
     ensures { result ≡ numbered n k i }
 {
-    let number = block_number(n, k, i);
+    let relation = letter_of(n, k);
+    let number = number_by(relation, n, k, i);
     NumberedBlock {
         number,
-        block: block_at(n, k, number),
+        block: block_by(relation, n, k, number),
     }
 }

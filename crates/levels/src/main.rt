@@ -17,10 +17,15 @@ impl fmt::Display for Rows<'_> {
             if at > 0 {
                 f.write_str("; ")?;
             }
-            let reading = if row.backward { "backward" } else { "forward" };
+            // with the spaces round it, since each piece of text is a write of its own
+            let reading = if row.backward {
+                " backward "
+            } else {
+                " forward "
+            };
             write!(
                 f,
-                "{} {} {reading} {}",
+                "{} {}{reading}{}",
                 char::from(row.letter),
                 row.block,
                 row.before

@@ -77,7 +77,8 @@ pub extern "C" fn osierdrum_explain(s: &[u8], rows: &mut [Level]) -> Explanation
 {
     let explained = explain::explain(s, rows.len());
     if let Ok(explained) = &explained {
-        rows[..explained.count].copy_from_slice(&explained.rows[..explained.count]);
+        // from 0, written out: so the goals of a program that begins at another row are the same but for that row
+        rows[0..explained.count].copy_from_slice(&explained.rows[0..explained.count]);
     }
     explained.into()
 }

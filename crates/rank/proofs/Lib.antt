@@ -13,7 +13,6 @@ pub mod Identity
 pub mod Passed
 pub mod Reading
 pub mod Filling
-pub mod Fixed
 pub mod Stands
 pub mod Descending
 pub mod RowBytes

@@ -1,12 +1,12 @@
 // From a place of S(n,k) to its permutation and back, and rows into a lent buffer.
 #![tactic(auto)]
 
-ghost use Rattle.std.specs.Prelude.{◌≡◌, ◌==◌, count_by, suc, ◌+◌, ◌-◌, ◌*◌, ◌^◌, ◌≤◌, ◌<◌, true, false, cond, ◌++◌, reverse, eqb, length, replicate, take, drop, MatchResult};
-ghost use Rattle.std.specs.List.{enumerate_from};
+ghost use Rattle.std.specs.Prelude.{◌≡◌, suc, ◌+◌, ◌-◌, ◌*◌, ◌^◌, ◌≤◌, ◌<◌, true, false, cond, ◌++◌, reverse, eqb, length, replicate, take, drop, MatchResult};
 ghost use Rattle.stirling.specs.Refusal.{refusal_in};
 ghost use Rattle.stirling.specs.declared.Refusal.TheVariants.{Lent};
 ghost use Rattle.stirling.specs.Count.{c, IsTable};
 ghost use Rattle.perm.specs.Lists.{positions};
+ghost use Rattle.perm.specs.Permutation.{fixed};
 ghost use Rattle.perm.specs.Array.{product};
 ghost use Rattle.gray.specs.Order.{S};
 ghost use Rattle.gray.specs.Blocks.{blocks, number_of};
@@ -467,15 +467,17 @@ fn rank_reading(table: Table, a: &[u8], k: u64, backward: bool) -> Sum
 }
 
 // How many entries i of a transposition array are i itself: the number of cycles of its permutation. In `exchanges` the other entries are counted: one public function of
-// `perm` for both would save this one chain, and be a public clause more.
+// `perm` for both would save this one loop, and be a public clause more.
 fn fixed_entries(a: &[u8]) -> u64
-    ensures { result ≡ count_by (λ e. e.1 == e.0 + 1) (enumerate_from 0 a.now) }
+    ensures { result ≡ fixed a.now }
 {
-    a.iter()
-        .copied()
-        .enumerate()
-        .filter(|(i, entry)| usize::from(*entry) == *i + 1)
-        .count() as u64
+    let mut fixed = 0;
+    for (i, entry) in a.iter().enumerate() {
+        if usize::from(*entry) == i + 1 {
+            fixed += 1;
+        }
+    }
+    fixed
 }
 
 // The transposition array of a permutation of n values, where n is the slice's length, and its number of cycles and of fixed points. Refusals in document 01's
@@ -491,29 +493,40 @@ fn entries_of(s: &[u8]) -> Result<Entries, Refusal>
     Ok(Entries { k, fixed, array })
 }
 
+// The place in S(n,k) of the permutation of a transposition array of n entries. The table is made here and in `descend_from`, and not where the checks stand: a function
+// with a `?` clears the room of what it makes behind it, and a second time over the table is as long as making it.
+fn place_of(a: &[u8], k: u64) -> u64
+    requires { Rankable a.now k }
+    ensures { PlaceIn false (length a.now) k (product a.now) result }
+{
+    let counts = stirling::table();
+    let table = Table { counts: &counts };
+    rank_forward(table, a, k).starts
+}
+
 // Where a permutation stands: its number of cycles k, and its place in S(n,k), where n is the slice's length; and its number of fixed points. Refusals 1, 6, 7, as
 // its array is made.
 pub fn rank(s: &[u8]) -> Result<Stand, Refusal>
     ensures { Ranked s.now (answer_of result) }
 {
     let entries = entries_of(s)?;
-    let counts = stirling::table();
-    let table = Table { counts: &counts };
-    let sum = rank_forward(table, &entries.array[..s.len()], entries.k);
+    let place = place_of(&entries.array[..s.len()], entries.k);
     Ok(Stand {
         k: entries.k,
-        place: sum.starts,
+        place,
         fixed: entries.fixed,
     })
 }
 
 // The steps of the permutation of a transposition array of n entries, from S(n,k) down, and how many additions found them.
-fn descend_from(table: Table, a: &[u8], k: u64) -> Path
+fn descend_from(a: &[u8], k: u64) -> Path
     requires rankable { Rankable a.now k }
     ensures steps { result.steps ≡ steps (length a.now) k false (product a.now) ++ replicate (20 - length a.now) still }
     ensures counted { Additions (length a.now) k false (product a.now) result.additions }
 {
     let n = a.len();
+    let counts = stirling::table();
+    let table = Table { counts: &counts };
     let mut steps = [STILL; 20];
     let mut additions = 0;
     let mut cycles = k;
@@ -539,9 +552,7 @@ pub fn descend(s: &[u8]) -> Result<Descent, Refusal>
     ensures { Descends s.now result }
 {
     let entries = entries_of(s)?;
-    let counts = stirling::table();
-    let table = Table { counts: &counts };
-    let path = descend_from(table, &entries.array[..s.len()], entries.k);
+    let path = descend_from(&entries.array[..s.len()], entries.k);
     let steps = path.steps;
     Ok(Descent {
         k: entries.k,

@@ -4,6 +4,8 @@
 // and after a dot the place of the record that is handed back. `stdout` is written by a model in another language, from another author's lists.
 #![tactic(auto)]
 
+ghost use Rattle.std.specs.Prelude.{◌≤◌, length};
+
 use cursor::{Cursor, Step};
 use print::Spaced;
 use std::io;
@@ -22,7 +24,9 @@ fn ends_of(count: u64) -> [u64; 5] {
 }
 
 // The bytes up to the last that is not 0.
-fn filled(list: &[u8]) -> Spaced<'_> {
+fn filled(list: &[u8]) -> Spaced<'_>
+    ensures { length result.0.now ≤ length list.now }
+{
     match list.iter().rposition(|byte| *byte != 0) {
         Some(last) => Spaced(&list[..=last]),
         None => Spaced(&[]),

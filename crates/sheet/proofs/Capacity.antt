@@ -18,11 +18,12 @@ use Rattle.gray.proofs.Once.{length-S, complete}
 use Rattle.rank.specs.Place.{check_row_count}
 use Rattle.rank.proofs.RowChecks.{row-count_passed}
 use Rattle.sheet.specs.Text.{LF, decimal}
-use Rattle.sheet.specs.Asked.{asked, asked_filed}
+use Rattle.sheet.specs.Asked.{asked, asked_in}
 use Rattle.sheet.specs.Sheet.{names, name_line, values, row_lines, lines_of, refused_line, answer_to, answer}
 use Rattle.sheet.specs.Rewriting.{sheet_of, rewritten_to, rewritten}
 use Rattle.sheet.specs.Written.{CAPACITY, REWRITTEN_CAPACITY, row_line}
 use Rattle.sheet.specs.declared.Request.{Request}
+use Rattle.sheet.specs.declared.Grammar.{Grammar}
 use Rattle.sheet.specs.declared.Grammar.TheVariants.{Filed}
 use Rattle.sheet.proofs.Lines.{rows_next}
 use Rattle.sheet.proofs.Decimal.{length_digits, length-decimal, length_two}
@@ -126,13 +127,17 @@ length_sheet n k place m a b c d =
     simp length-append
     (omega (arith, length-decimal n a, length-decimal k b, length-decimal place c, length-decimal m d))
 
--- and so the rewriting of any text fits
-pub rewritten_fits : (text : List ℕ) → length (rewritten text) ≤ REWRITTEN_CAPACITY
+-- and so does the sheet of what any text asks for, by either grammar,
+pub sheet_fits : (g : Grammar) (text : List ℕ) → length (rewritten_to (asked_in g text)) ≤ REWRITTEN_CAPACITY
 unfolding rewritten_to
-rewritten_fits text = by-asked (asked_filed text) refl
+sheet_fits g text = by-asked (asked_in g text) refl
   where
-    by-asked : (asks : Option Request) → asked_filed text ≡ asks → length (rewritten_to asks) ≤ REWRITTEN_CAPACITY
+    by-asked : (asks : Option Request) → asked_in g text ≡ asks → length (rewritten_to asks) ≤ REWRITTEN_CAPACITY
     by-asked None e = omega (arith, length_refused 11)
     by-asked (Some r) e =
-        let s = only Filed text r.n r.k r.place r.m e in
+        let s = only g text r.n r.k r.place r.m e in
         length_sheet r.n r.k r.place r.m (number_below s.writes_n) (number_below s.writes_k) (number_below s.writes_place) (number_below s.writes_m)
+
+-- and the rewriting of any text
+pub rewritten_fits : (text : List ℕ) → length (rewritten text) ≤ REWRITTEN_CAPACITY
+rewritten_fits = sheet_fits Filed

@@ -1,4 +1,4 @@
--- What a chain of iterators over the positions 1 to n gives: how many of them pass a test, and whether one does. Assumes nothing.
+-- What a chain of iterators over the positions 1 to n gives: whether one of them passes a test. Assumes nothing.
 use mathlib.Core.Path.{◌≡◌, refl, sym, ap, ap₂, subst, ◌∙◌}
 use Prim.Native.Nat.{ℕ, suc, ◌-◌, ◌<◌}
 use native.Mathlib.Omega.{arith}
@@ -12,12 +12,10 @@ use Rattle.std.specs.declared.ops.RangeInclusive.{RangeInclusive}
 use Rattle.std.specs.Prelude.{Some, None}
 use Rattle.std.specs.Bool.{MatchBool}
 use Rattle.std.specs.Range.{range_inclusive_len, range_inclusive_start, range_inclusive_end, range_inclusive_exhausted}
-use Rattle.std.specs.List.{filter, count_by, HoldsAt, AllWithin}
+use Rattle.std.specs.List.{HoldsAt, AllWithin}
 use Rattle.std.proofs.iter.runs.Sources.{nat_range_inclusive_steps}
 use Rattle.std.proofs.lemmas.Iterator.{YieldsList}
 use Rattle.std.proofs.lemmas.Iterator.Consumers.{YieldsList-from_shown}
-use Rattle.std.proofs.lemmas.List.Sums.{length-filter}
-use Rattle.std.proofs.lemmas.List.Recursion.{is_count_by}
 use Rattle.perm.specs.Lists.{tally, some, range, positions}
 use Rattle.perm.proofs.Tally.{length-range, tally-none, one_passes}
 
@@ -53,15 +51,7 @@ YieldsList-from_positions {s} n a b z =
     let e : left s ≡ n = ap (range_inclusive_len (λ x y. y - x) (range_inclusive_start s) (range_inclusive_end s)) z ∙ omega arith in
     subst (λ (xs : List ℕ). YieldsList nat_range_inclusive_steps (λ x. x) s xs) (ap₂ range a e) (YieldsList-from_shown nat_range_inclusive_steps (λ x. x) shown ends goes s)
 
-tally-count : (p : ℕ → Bool) (xs : List ℕ) → tally p xs ≡ count_by p xs
-unfolding tally
-tally-count p xs = is_count_by (tally p) p refl (λ x l. cases (p x) (λ t. rw t refl) (λ f. rw f (omega arith))) xs
-
--- the items that a filter lets through are as many as pass
-pub length-passing : (p : ℕ → Bool) (xs : List ℕ) → length (filter p xs) ≡ tally p xs
-length-passing p xs = length-filter p xs ∙ sym (tally-count p xs)
-
--- and one passes just if `any` finds one
+-- one passes just if `any` finds one
 pub found-any : (p : ℕ → Bool) (xs : List ℕ) (r : Bool) → MatchBool r ((k : ℕ) × (k < length xs) × HoldsAt (λ i. p i ≡ true) xs k) (AllWithin (λ i. p i ≡ false) xs 0 (length xs)) → r ≡ some p xs
 found-any p xs true h = let (k, u, e) = h in sym (lt-ltb 0 (tally p xs) (one_passes p 0 xs k u (e 0)))
 found-any p xs false h =

@@ -599,7 +599,13 @@ impl Kind {
         requires { (h ≤ length s.now) × (length s.now ≤ 20) × IsOf self (length s.now) s.now }
         ensures { result ≡ count_usable self s.now h }
     {
-        (1..=h).filter(|l| self.is_usable(s, *l)).count()
+        let mut count = 0;
+        for l in 0..h {
+            if self.is_usable(s, l + 1) {
+                count += 1;
+            }
+        }
+        count
     }
 
     // Which child a place falls to, where each child that exchanges one of the positions 1 to h has so many rows: past each, the place is so much less.
@@ -710,11 +716,14 @@ impl Table {
     fn of(kind: Kind) -> Self
         ensures { result.kind ≡ kind }
     {
-        Table {
-            kind,
-            sizes: match kind {
-                Kind::Involution => INVOLUTION_SIZES,
-                Kind::Bell => BELL_SIZES,
+        match kind {
+            Kind::Involution => Table {
+                kind: Kind::Involution,
+                sizes: INVOLUTION_SIZES,
+            },
+            Kind::Bell => Table {
+                kind: Kind::Bell,
+                sizes: BELL_SIZES,
             },
         }
     }
@@ -828,6 +837,8 @@ impl Table {
 pub fn count(kind: Kind, n: u64) -> Result<u64, Refusal>
     ensures { counted result ≡ count_of kind n }
 {
+    // asked here too, so that a call that is refused makes no table
+    stirling::check_size(n)?;
     Table::of(kind).count(n)
 }
 

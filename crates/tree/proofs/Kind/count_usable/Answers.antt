@@ -1,24 +1,20 @@
--- `tree::Kind::count_usable` meets its contract: the chain counts the positions that may be used. Assumes nothing.
-use mathlib.Core.Path.{◌∙◌}
-use borrow.Author.Tests.{tests}
-use Rattle.std.proofs.Common.{rules}
-use Rattle.std.proofs.lemmas.Iterator.Consumers.{YieldsList-at, YieldsList-from_filter, count_from_yields_List}
-use Rattle.perm.specs.Lists.{positions}
+use Prim.Native.Nat.{◌+◌}
+use mathlib.Core.Path.{◌≡◌}
+use mathlib.Core.Bool.{true, false}
+use Rattle.perm.proofs.Counted.{counted_none, counted_hit, counted_miss}
 use Rattle.tree.specs.Kind.{rule_of}
-use Rattle.tree.proofs.Chains.{YieldsList-from_positions, length-passing}
+use Rattle.tree.proofs.Kind.count_usable.Goals.{then-is_usable, else-is_usable}
 use Rattle.tree.proofs.Kind.count_usable.Goals as goal
 
-pub returns : goal.returns
-returns c =
-    let test = rule_of c.args.self c.args.s.now in
-    count_from_yields_List
-    c.filter.result
-    _
-    c.count.ensures.ran
-    (YieldsList-from_filter
-    _
-    test
-    (YieldsList-at c.filter.ensures.source (YieldsList-from_positions c.args.h c.new.ensures.start c.new.ensures.end c.new.ensures.exhausted))
-    c.filter.ensures.closure
-    (λ x b q k. search (rules, tests)))
-    ∙ length-passing test (positions c.args.h)
+pub loop-l-init : goal.loop-l-init
+loop-l-init c = counted_none _
+
+pub loop-l-preserved : goal.loop-l-preserved
+loop-l-preserved c = elim c.if-is_usable.branch [
+  | then-is_usable w ↦
+      let test : rule_of c.args.self c.args.s.now (c.loop-l.l + 1) ≡ true = rw (← c.is_usable.ensures) w.if-is_usable.true in
+      rw w.count-is (counted_hit test c.loop-l.invariant)
+  | else-is_usable w ↦
+      let test : rule_of c.args.self c.args.s.now (c.loop-l.l + 1) ≡ false = rw (← c.is_usable.ensures) w.if-is_usable.false in
+      rw w.count-is (counted_miss test c.loop-l.invariant)
+]

@@ -6,6 +6,6 @@ use Rattle.tree.proofs.Table.of.Goals as goal
 
 pub invariant_of-result : goal.invariant_of-result
 invariant_of-result c = elim c.match-kind.branch [
-  | in-Involution w ↦ rw (w.in-Involution.is, w.result-is) (record { holds_sizes = is_table _ _ tt })
-  | in-Bell w ↦ rw (w.in-Bell.is, w.result-is) (record { holds_sizes = is_table _ _ tt })
+  | in-Involution w ↦ rw w.result-is (record { holds_sizes = is_table _ _ tt })
+  | in-Bell w ↦ rw w.result-is (record { holds_sizes = is_table _ _ tt })
 ]
