@@ -10,7 +10,7 @@ use borrow.Author.Tests.{eqb-true, eq-eqb, ltb-false, not-false}
 use Rattle.std.proofs.Common.{Some, None}
 use Rattle.stirling.specs.Refusal.{◌then◌, unless}
 use Rattle.stirling.specs.Count.{c, IsTable, check_place_in, check_place}
-use Rattle.stirling.proofs.Refusals.{refuse-passed, then_passes, then_passed}
+use Rattle.stirling.proofs.Refusals.{refuse-passed, then_passes, then_stops, then_passed}
 use Rattle.stirling.proofs.Counts.{place_passes, place-passed, place-by-table}
 use Rattle.perm.specs.Lists.{tally, some}
 use Rattle.perm.proofs.Tally.{none_passes}
@@ -27,6 +27,10 @@ use Rattle.find.proofs.Least.{First, least_first, first-least, first_some, first
 
 -- the checks of what is asked, one after another
 module _ (n k place : ℕ) (w : List ℕ) (size : ℕ) where
+  pub asked-place : {r : ℕ} → r ≡ check_place n k place → (r ≡ 0 → ⊥) → r ≡ check_asked n k place w size
+  asked-place {r} e d =
+      then_stops (check_place n k place then check_lengths n (length w) size) (check_pattern n w) r (then_stops (check_place n k place) (check_lengths n (length w) size) r e d) d
+
   pub asked-values : {r : ℕ} → check_place n k place ≡ 0 → length w ≡ n → size ≡ n → r ≡ check_pattern n w → r ≡ check_asked n k place w size
   asked-values e z s q = rw (e, eq-eqb (length w) n z, eq-eqb size n s) q
 

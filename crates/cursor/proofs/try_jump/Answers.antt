@@ -13,7 +13,7 @@ use Rattle.cursor.proofs.Numbers.{gives_answer}
 use Rattle.cursor.proofs.Sound.{sound_on}
 use Rattle.cursor.proofs.Zeros.{answer_zeros}
 use Rattle.cursor.proofs.Outcomes.{record_fails, call_fails, called-moves}
-use Rattle.cursor.proofs.try_jump.Goals.{In_ok-check_record, In_ok-check_place}
+use Rattle.cursor.proofs.try_jump.Goals.{In_ok-check_record, In_ok-check_place, After-is_within}
 use Rattle.cursor.proofs.try_jump.Goals as goal
 
 -- past check 8 the record is sound
@@ -29,6 +29,10 @@ listed : (c : In_ok-check_place) → leb (count_of c.args.w.n c.args.w.k) c.args
 listed c =
     let both = then_passed (check_cycles c.args.w.n c.args.w.k) _ (sym c.in_ok-check_place.ensures) in
     refuse-passed _ 2 both.1
+
+-- and the last test asks whether it is one of the section
+asked : (c : After-is_within) → c.is_within.result ≡ within c.args.w.lowest c.args.w.highest c.args.place
+asked c = c.is_within.ensures
 
 pub returns-in_err-check_record : goal.returns-in_err-check_record
 returns-in_err-check_record c =
@@ -48,7 +52,7 @@ pub returns-then-not-is_within : goal.returns-then-not-is_within
 returns-then-not-is_within c =
     let w = c.args.w in
     let place = c.args.place in
-    let outside : within w.lowest w.highest place ≡ false = sym c.is_within.ensures ∙ c.if-not-is_within.true in
+    let outside = sym (asked (goal.at.returns-then-not-is_within c).After-is_within) ∙ c.if-not-is_within.true in
     let out : 13 ≡ refusal_of (machine_of w) (jump place) = rw (listed (goal.at.returns-then-not-is_within c).In_ok-check_place, outside) in
     call_fails w (jump place) Section (passed (goal.at.returns-then-not-is_within c).In_ok-check_record) out
 
@@ -59,7 +63,7 @@ pub returns : goal.returns
 returns c =
     let w = c.args.w in
     let place = c.args.place in
-    let there : within w.lowest w.highest place ≡ true = sym c.is_within.ensures ∙ c.if-not-is_within.false in
+    let there = sym (asked (goal.at.returns c).After-is_within) ∙ c.if-not-is_within.false in
     let served : refusal_of (machine_of w) (jump place) ≡ 0 = rw (listed (goal.at.returns c).In_ok-check_place, there) in
     let cursor = c.cursor_at-cursor.ensures in
     let answer = answer_zeros c.default-answer.result c.default-answer.ensures in

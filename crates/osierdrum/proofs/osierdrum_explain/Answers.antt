@@ -21,8 +21,10 @@ returns c =
     elim c.match-explained.branch [
       | in-Ok w ↦
           let is = rw w.in-Ok.is at c.explain-explained.ensures in
-          let all : w.in-Ok.explained.count - 0 ≡ w.in-Ok.explained.count = omega arith in
-          rw (c.into.ensures, w.in-Ok.is, w.rows-is, w.copy_from_slice.ensures.after, all) (writes is)
+          -- as many rows are copied as were made: none is left out
+          let all : length w.copy_from_slice.new.self ≡ w.in-Ok.explained.count = omega arith in
+          let from : w.in-Ok.explained.count - 0 ≡ length w.copy_from_slice.new.self = omega arith in
+          rw (c.into.ensures, w.in-Ok.is, w.rows-is, w.copy_from_slice.ensures.after, from, all) (writes is)
       | in_default w ↦
           let is = rw w.in_default.is at c.explain-explained.ensures in
           rw (c.into.ensures, w.in_default.is, w.rows-is) (left_alone is)
